@@ -1,9 +1,8 @@
 -- How takings of a sink join.
-use Rattle.std.proofs.Common.{◌≡◌, ℕ, ◌+◌, ◌≤◌, List, [], ◌++◌, length, take, drop, refl, sym, ◌∙◌, ap, append_assoc, append-nil, arith}
+use Rattle.std.proofs.Common.{◌≡◌, ℕ, ◌+◌, List, ◌++◌, take, drop, refl, sym, ◌∙◌, ap, append_assoc}
 use Rattle.std.specs.Prelude.{Option, Some, None, IsSome}
-use Rattle.std.specs.Io.KnownBytes.{prepend_known, append_known, IsAtEnd}
 use Rattle.std.proofs.Math.Seq.{take-add}
-use Rattle.ports.specs.Streams.{Gives, Takes}
+use Rattle.ports.specs.Streams.{Takes}
 
 -- taking some bytes, and then those behind them
 pub Takes-then : (old mid new : Option (List ℕ)) (xs : List ℕ) (at n : ℕ) → Takes old mid (take at xs)
@@ -16,4 +15,4 @@ Takes-then (Some os) (Some ms) (Some ys) xs at n first second told =
     let f : Some ys ≡ Some (ms ++ take n (drop at xs)) = second refl in
     let m : ms ≡ os ++ take at xs = cc in
     f ∙ ap (λ zs. Some (zs ++ take n (drop at xs))) m
-      ∙ ap (λ zs. Some zs) (append_assoc os (take at xs) (take n (drop at xs)) ∙ ap (λ zs. os ++ zs) (sym (take-add at n xs)))
+    ∙ ap (λ zs. Some zs) (append_assoc os (take at xs) (take n (drop at xs)) ∙ ap (λ zs. os ++ zs) (sym (take-add at n xs)))

@@ -1,5 +1,5 @@
 -- When a call may answer that it failed.
-use Rattle.std.specs.Prelude.{◌≡◌, ℕ, ◌+◌, ◌-◌, ◌^◌, ◌<◌, ◌≤◌, min, Result, OnOk, OnErr}
+use Rattle.std.specs.Prelude.{◌≡◌, ℕ, ◌+◌, ◌-◌, ◌^◌, ◌≤◌, min, Result, OnOk, OnErr}
 
 -- a count after one more: it stays at 2^64 - 1 once it is there
 abbrev pub one_more : ℕ → ℕ

@@ -1,5 +1,5 @@
 -- What contracts see of the sources and sinks in memory.
-use Rattle.std.specs.Prelude.{ℕ, ◌+◌, ◌≤◌, ◌++◌, List, length, nat_le, Option, Some, None, if◌then◌else◌}
+use Rattle.std.specs.Prelude.{ℕ, ◌+◌, ◌++◌, List, length, nat_le, Option, Some, None, if◌then◌else◌}
 
 -- a source in memory: the bytes still to come, the calls that fail, and how many calls were made and failed
 pub record MemSourceState : Type 0 where

@@ -61,9 +61,7 @@ impl fmt::Display for SpvError {
     fn fmt<W: fmt::Write>(&self, f: &mut fmt::Formatter<W>) -> fmt::Result {
         match self {
             SpvError::NoMemory => f.write_str("out of memory"),
-            SpvError::Fault(fault) => {
-                write!(f, "rule S{} at word {}", fault.rule, fault.word)
-            }
+            SpvError::Fault(fault) => write!(f, "rule S{} at word {}", fault.rule, fault.word),
         }
     }
 }
@@ -72,9 +70,7 @@ impl fmt::Display for LlError {
     fn fmt<W: fmt::Write>(&self, f: &mut fmt::Formatter<W>) -> fmt::Result {
         match self {
             LlError::NoMemory => f.write_str("out of memory"),
-            LlError::Fault(fault) => {
-                write!(f, "rule L{} at byte {}", fault.rule, fault.byte)
-            }
+            LlError::Fault(fault) => write!(f, "rule L{} at byte {}", fault.rule, fault.byte),
         }
     }
 }

@@ -1,4 +1,4 @@
-ghost use Rattle.std.specs.Prelude.{None};
+ghost use Rattle.std.specs.Prelude.{◌≡◌, None};
 
 use crate::sink::Sink;
 use crate::source::{Failed, Source};
@@ -13,7 +13,9 @@ pub struct StdSource<R: Read> {
 
 impl<R: Read> StdSource<R> {
     /// A source that has not failed yet.
-    pub fn new(reader: R) -> StdSource<R> {
+    pub fn new(reader: R) -> StdSource<R>
+        ensures { ⟦<StdSource<R> as Source>⟧.faults result ≡ 0 }
+    {
         StdSource { reader, faults: 0 }
     }
 }
@@ -45,7 +47,9 @@ pub struct StdSink<W: Write> {
 
 impl<W: Write> StdSink<W> {
     /// A sink that has not failed yet.
-    pub fn new(writer: W) -> StdSink<W> {
+    pub fn new(writer: W) -> StdSink<W>
+        ensures { ⟦<StdSink<W> as Sink>⟧.faults result ≡ 0 }
+    {
         StdSink { writer, faults: 0 }
     }
 }

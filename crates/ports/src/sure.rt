@@ -77,8 +77,8 @@ impl Model for SureSink {
     ghost Value = { SureSinkState };
 
     ghost view = { λ s. record {
-        room = vec_len s.room;
-        held = if s.overflowed then None else Some (take s.taken s.room.items)
+      room = vec_len s.room;
+      held = if s.overflowed then None else Some (take s.taken s.room.items);
     } };
 
     ghost invariant = { λ s. s.taken ≤ vec_len s.room };

@@ -127,11 +127,7 @@ fn read_more<S: Source>(
 /// `Failed` comes only where the source's count of faults rose in this call. `TooLong` comes exactly where no call failed and
 /// the source gave more than `limit` bytes, of which it has then given one more than `limit`. At every error the source has
 /// given some bytes, in order from the first that was left.
-pub fn read_all<S: Source>(
-    alloc: Global,
-    src: &mut S,
-    limit: u64,
-) -> Result<Vec<u8>, ReadAllError>
+pub fn read_all<S: Source>(alloc: Global, src: &mut S, limit: u64) -> Result<Vec<u8>, ReadAllError>
     requires { limit < 2 ^ 64 - 1 }
 
     ensures bytes { IfOk result (λ bytes. Gives (S.left src.old) (S.left src.new) bytes.items) }
