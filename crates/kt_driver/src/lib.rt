@@ -1,0 +1,22 @@
+//! The commands of the translator: from the words of a command line, a source and two sinks to a status.
+#![tactic(auto)]
+
+mod canonical_text;
+mod driver;
+mod ids;
+mod kernel;
+mod layout;
+mod opcode;
+mod reader;
+mod refusals;
+mod reply;
+mod request;
+mod scope;
+mod status;
+mod tokens;
+mod translation;
+mod writer;
+
+pub use driver::run;
+pub use request::{Format, Request};
+pub use status::Status;

@@ -1,0 +1,29 @@
+ghost use Rattle.std.specs.Prelude.{IfOk};
+ghost use Rattle.kt_driver.specs.Runs.{IsBinary};
+
+use crate::canonical_text::text_len;
+use crate::layout::lay_out;
+use crate::reader::read_kernel;
+use crate::refusals::TranslateError;
+use crate::tokens::tokens;
+use crate::writer::{little_bytes, module_words};
+use std::alloc::Global;
+
+/// How many bytes an input, its canonical form and its translation may have.
+pub const MAX_BYTES: u64 = 16_777_216;
+
+/// The SPIR-V binary of the kernel that a text has.
+pub fn translate(alloc: Global, text: &[u8]) -> Result<Vec<u8>, TranslateError>
+    ensures { IfOk result (λ bytes. IsBinary bytes.items) }
+{
+    if str::from_utf8(text).is_err() {
+        return Err(TranslateError::Outside);
+    }
+    let kernel = read_kernel(alloc, &tokens(alloc, text)?)?;
+    let layout = lay_out(alloc, kernel)?;
+    let words = module_words(alloc, &layout)?;
+    if text_len(&layout) as u64 > MAX_BYTES || words.len() as u64 > MAX_BYTES / 4 {
+        return Err(TranslateError::Outside);
+    }
+    Ok(little_bytes(alloc, &words)?)
+}
