@@ -14,10 +14,10 @@ texts_of words = map string_bytes words
 abbrev pub request_of : List (List ℕ) → Option Request
 request_of (command ∷ from ∷ source ∷ to ∷ target ∷ []) =
     if bytes_eq command (codes "translate")
-        && bytes_eq from (codes "--from")
-        && bytes_eq source (codes "llvm")
-        && bytes_eq to (codes "--to")
-        && bytes_eq target (codes "spirv")
+    && bytes_eq from (codes "--from")
+    && bytes_eq source (codes "llvm")
+    && bytes_eq to (codes "--to")
+    && bytes_eq target (codes "spirv")
     then Some (Translate Llvm Spirv Little)
     else None
 request_of _ = None

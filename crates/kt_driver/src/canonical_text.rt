@@ -51,14 +51,28 @@ impl Numbers {
 
     fn act_len(self, act: Act) -> usize {
         match act {
-            Act::Add { result: sum, left, right } => {
-                "  % = add i32 %, %\n".len() + self.value_len(sum) + self.value_len(left) + self.value_len(right)
+            Act::Add {
+                result: sum,
+                left,
+                right,
+            } => {
+                "  % = add i32 %, %\n".len()
+                    + self.value_len(sum)
+                    + self.value_len(left)
+                    + self.value_len(right)
             }
-            Act::Load { result: loaded, pointer } => {
-                "  % = load i32, i32 addrspace(1)* %, align 4\n".len() + self.value_len(loaded) + self.value_len(pointer)
+            Act::Load {
+                result: loaded,
+                pointer,
+            } => {
+                "  % = load i32, i32 addrspace(1)* %, align 4\n".len()
+                    + self.value_len(loaded)
+                    + self.value_len(pointer)
             }
             Act::Store { value, pointer } => {
-                "  store i32 %, i32 addrspace(1)* %, align 4\n".len() + self.value_len(value) + self.value_len(pointer)
+                "  store i32 %, i32 addrspace(1)* %, align 4\n".len()
+                    + self.value_len(value)
+                    + self.value_len(pointer)
             }
         }
     }
@@ -67,7 +81,11 @@ impl Numbers {
         ensures { result ≤ 20 }
     {
         let index = value.index as usize;
-        if index < self.block { digits(index) } else { digits(index + 1) }
+        if index < self.block {
+            digits(index)
+        } else {
+            digits(index + 1)
+        }
     }
 }
 

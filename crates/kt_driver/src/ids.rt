@@ -27,8 +27,14 @@ impl Ids {
         let has_pointer = layout.parameters.contains(&ValueType::Pointer);
         let types = 2 + u32::from(parameters > 0) + u32::from(has_pointer);
         let first_parameter = types + 2;
-        let results = layout.instructions.iter().filter(|act| act.has_value()).count();
-        let bound = (first_parameter as usize + 1).saturating_add(parameters).saturating_add(results);
+        let results = layout
+            .instructions
+            .iter()
+            .filter(|act| act.has_value())
+            .count();
+        let bound = (first_parameter as usize + 1)
+            .saturating_add(parameters)
+            .saturating_add(results);
         if bound > MAX_BOUND as usize {
             return Err(TranslateError::Outside);
         }

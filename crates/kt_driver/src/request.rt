@@ -33,8 +33,7 @@ pub fn read_request(words: &[String]) -> Option<Request>
                 && from.as_str() == "--from"
                 && source.as_str() == "llvm"
                 && to.as_str() == "--to"
-                && target.as_str() == "spirv" =>
-        {
+                && target.as_str() == "spirv" => {
             Some(Request::Translate {
                 from: Format::Llvm,
                 to: Format::Spirv,

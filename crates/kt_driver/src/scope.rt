@@ -75,7 +75,11 @@ impl<'a> Scope<'a> {
                 let left = self.value(left, ValueType::Int)?;
                 let right = self.value(right, ValueType::Int)?;
                 let result = self.next_value()?;
-                Ok(Act::Add { result, left, right })
+                Ok(Act::Add {
+                    result,
+                    left,
+                    right,
+                })
             }
             Instruction::Load { pointer, .. } => {
                 let pointer = self.value(pointer, ValueType::Pointer)?;

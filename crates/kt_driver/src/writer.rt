@@ -72,7 +72,12 @@ impl Module {
     }
 
     /// The types that the function needs, each behind those that it is made of.
-    fn types(&mut self, alloc: Global, parameters: &[ValueType], ids: &Ids) -> Result<(), TranslateError> {
+    fn types(
+        &mut self,
+        alloc: Global,
+        parameters: &[ValueType],
+        ids: &Ids,
+    ) -> Result<(), TranslateError> {
         self.instruction(Opcode::TypeVoid, &[ids.void])?;
         if !parameters.is_empty() {
             self.instruction(Opcode::TypeInt, &[ids.int, 32, 0])?;
@@ -107,11 +112,18 @@ impl Module {
     /// An instruction of the block. Loads and stores of `i32` are aligned to its size.
     fn act(&mut self, act: Act, ids: &Ids) -> Result<(), TranslateError> {
         match act {
-            Act::Add { result: sum, left, right } => {
+            Act::Add {
+                result: sum,
+                left,
+                right,
+            } => {
                 let operands = [ids.int, ids.value(sum), ids.value(left), ids.value(right)];
                 self.instruction(Opcode::IAdd, &operands)
             }
-            Act::Load { result: loaded, pointer } => {
+            Act::Load {
+                result: loaded,
+                pointer,
+            } => {
                 let operands = [
                     ids.int,
                     ids.value(loaded),

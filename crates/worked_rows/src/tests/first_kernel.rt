@@ -243,12 +243,20 @@ fn as_many_parameters_as_there_may_be(rt: HostRuntime) -> Result<(), Fail> {
     Ok(())
 }
 
+/// A text with blanks behind it, up to this many bytes.
+fn padded(alloc: Global, text: &[u8], len: usize) -> Result<Vec<u8>, Fail> {
+    let mut padded = Vec::from_slice(alloc, text)?;
+    for _ in text.len()..len {
+        padded.push(b' ')?;
+    }
+    Ok(padded)
+}
+
 #[test]
 fn as_long_an_input_as_there_may_be(rt: HostRuntime) -> Result<(), Fail> {
     let alloc = rt.alloc();
-    let mut text = vec![in alloc; b' '; 16_777_216]?;
     let kernel = b"define spir_kernel void @k() { ret void }";
-    text[..kernel.len()].copy_from_slice(kernel);
+    let mut text = padded(alloc, kernel, 16_777_216)?;
     let longest = translate(alloc, &text)?;
     assert_eq!(rt; longest.status, Status::Ok);
     assert_eq!(rt; longest.out.as_slice().len(), 120);
