@@ -42,9 +42,7 @@ pub const ACCESS_ALIGNED: u32 = 2;
 /// The alignment of an integer of 32 bits, in bytes.
 pub const INT_ALIGNMENT: u32 = 4;
 
-/// The magic number of a module, its version 1.2, and the generator that has no number of its own (2.3).
-pub const MAGIC: u32 = 0x0723_0203;
-
+/// The version 1.2 of a module, and the generator that has no number of its own (2.3).
 pub const VERSION: u32 = 0x0001_0200;
 
 pub const GENERATOR: u32 = 0;

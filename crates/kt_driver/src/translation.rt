@@ -6,7 +6,8 @@ use crate::layout::lay_out;
 use crate::reader::read_kernel;
 use crate::refusals::TranslateError;
 use crate::tokens::tokens;
-use crate::writer::{little_bytes, module_words};
+use crate::writer::module_words;
+use spv_words::{Order, put_words};
 use std::alloc::Global;
 
 /// How many bytes an input, its canonical form and its translation may have.
@@ -25,5 +26,5 @@ pub fn translate(alloc: Global, text: &[u8]) -> Result<Vec<u8>, TranslateError>
     if text_len(&layout) as u64 > MAX_BYTES || words.len() as u64 > MAX_BYTES / 4 {
         return Err(TranslateError::Outside);
     }
-    Ok(little_bytes(alloc, &words)?)
+    Ok(put_words(alloc, Order::Little, &words)?)
 }

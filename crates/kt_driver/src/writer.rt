@@ -1,13 +1,10 @@
-ghost use Rattle.std.specs.Prelude.{◌≡◌, IfOk};
-ghost use Rattle.spv_words.specs.Words.{words_bytes};
-
 use crate::ids::Ids;
 use crate::kernel::ValueType;
 use crate::layout::{Act, Layout, Value};
 use crate::opcode::{self, Opcode};
 use crate::refusals::TranslateError;
 use ports::OutOfMemory;
-use spv_words::{Order, put_word, string_words};
+use spv_words::{MAGIC, string_words};
 use std::alloc::Global;
 
 /// The words of the module of a kernel (SPIR-V 1.2, 2.4, "Logical Layout of a Module").
@@ -21,17 +18,6 @@ pub fn module_words(alloc: Global, layout: &Layout<'_>) -> Result<Vec<u32>, Tran
     Ok(words)
 }
 
-/// The bytes of words in little order.
-pub fn little_bytes(alloc: Global, words: &[u32]) -> Result<Vec<u8>, OutOfMemory>
-    ensures { IfOk result (λ bytes. bytes.items ≡ words_bytes Order.Little words.now) }
-{
-    let mut bytes = Vec::new(alloc);
-    for word in words {
-        bytes.extend_from_slice(&put_word(Order::Little, *word))?;
-    }
-    Ok(bytes)
-}
-
 /// The words of a module, which grow by an instruction at a time.
 #[derive(Drop)]
 struct Module {
@@ -42,7 +28,7 @@ impl Module {
     /// The header of a module with this bound (SPIR-V 1.2, 2.3, "Physical Layout of a SPIR-V Module and Instruction").
     fn new(alloc: Global, bound: u32) -> Result<Module, OutOfMemory> {
         let mut words = Vec::new(alloc);
-        words.extend_from_slice(&[opcode::MAGIC, opcode::VERSION, opcode::GENERATOR, bound, 0])?;
+        words.extend_from_slice(&[MAGIC, opcode::VERSION, opcode::GENERATOR, bound, 0])?;
         Ok(Module { words })
     }
 

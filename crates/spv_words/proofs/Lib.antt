@@ -1,1 +1,5 @@
 pub mod WordLemmas
+pub mod FeedLemmas
+pub mod StringLemmas
+pub mod FeedLaws
+pub mod StringLaws

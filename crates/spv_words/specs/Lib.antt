@@ -1,2 +1,4 @@
 pub mod Words
 pub mod Strings
+pub mod Feeds
+pub mod Laws

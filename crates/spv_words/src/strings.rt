@@ -1,11 +1,52 @@
-ghost use Rattle.std.specs.Prelude.{◌≡◌, ◌+◌, ◌-◌, ◌*◌, ◌%◌, ◌≤◌, ◌<◌, ◌++◌, length, take, drop, vec_len, IfOk};
+ghost use Rattle.std.specs.Prelude.{◌≡◌, ◌≢◌, ◌↔◌, ℕ, ◌+◌, ◌-◌, ◌*◌, ◌/◌, ◌%◌, ◌≤◌, ◌<◌, List, ◌++◌, length, take, drop, slice_index, vec_len, string_bytes, All, IfOk, IfSome, IfNone, IsTrue, Err};
 ghost use Rattle.std.specs.Int.{to_le_bytes, w32};
 ghost use Rattle.spv_words.specs.Words.{IsWords};
-ghost use Rattle.spv_words.specs.Strings.{terminated};
+ghost use Rattle.spv_words.specs.Strings.{BeginsString, terminated};
 
-use crate::words::Order;
+use crate::words::{Order, put_words};
 use ports::OutOfMemory;
-use std::alloc::Global;
+use std::alloc::{AllocError, Global};
+use std::error::Error;
+use std::fmt;
+
+/// Why words begin no string.
+#[derive(Clone, Copy, Debug, PartialEq, Eq, Hash)]
+pub enum StringError {
+    NoMemory,
+    /// There is no zero byte, or another byte follows it in its word, or what stands before it is no UTF-8.
+    Bad,
+}
+
+impl fmt::Display for StringError {
+    fn fmt<W: fmt::Write>(&self, f: &mut fmt::Formatter<W>) -> fmt::Result {
+        f.write_str(match self {
+            StringError::NoMemory => "out of memory",
+            StringError::Bad => "the words begin no string",
+        })
+    }
+}
+
+impl Error for StringError {}
+
+impl From<OutOfMemory> for StringError {
+    ghost use Rattle.spv_words.specs.declared.strings.StringError.TheVariants.{NoMemory};
+
+    ghost from_gives = { λ _ error. error ≡ NoMemory };
+
+    fn from(_refused: OutOfMemory) -> StringError {
+        StringError::NoMemory
+    }
+}
+
+impl From<AllocError> for StringError {
+    ghost use Rattle.spv_words.specs.declared.strings.StringError.TheVariants.{NoMemory};
+
+    ghost from_gives = { λ _ error. error ≡ NoMemory };
+
+    fn from(_refused: AllocError) -> StringError {
+        StringError::NoMemory
+    }
+}
 
 /// The words of a text as a literal string: its bytes in UTF-8, the first one lowest in its word, then a zero byte, and zero
 /// bytes up to the end of the word (SPIR-V 1.2, 2.2.1). Read back, it ends at the first zero byte, so a text that has one
@@ -46,4 +87,43 @@ fn little_word(bytes: &[u8], at: usize) -> u32
     ensures { to_le_bytes w32 result ≡ take 4 (drop at bytes.now) }
 {
     u32::from_le_bytes([bytes[at], bytes[at + 1], bytes[at + 2], bytes[at + 3]])
+}
+
+/// The text of the literal string that words begin with, and how many words it takes (SPIR-V 1.2, 2.2.1).
+///
+/// `Bad` comes exactly where the words begin no string: where there is no zero byte, where another byte stands behind it in its
+/// word, or where what stands before it is no UTF-8.
+pub fn words_string(alloc: Global, words: &[u32]) -> Result<(String, usize), StringError>
+    ensures read { IfOk result (λ read. BeginsString words.now (string_bytes read.0) read.1) }
+    ensures bad { result ≡ Err StringError.Bad → (text : List ℕ) (used : ℕ) → ¬ BeginsString words.now text used }
+{
+    let bytes = put_words(alloc, Order::Little, words)?;
+    let Some(len) = first_zero(&bytes) else {
+        return Err(StringError::Bad);
+    };
+    let used = len / 4 + 1;
+    if !are_zero(&bytes[len..4 * used]) {
+        return Err(StringError::Bad);
+    }
+    let Ok(text) = str::from_utf8(&bytes[..len]) else {
+        return Err(StringError::Bad);
+    };
+    Ok((String::from_str(alloc, text)?, used))
+}
+
+/// Where the first zero byte stands.
+fn first_zero(bytes: &[u8]) -> Option<usize>
+    ensures none { IfNone result (All (λ byte. byte ≢ 0) bytes.now) }
+    ensures within { IfSome result (λ at. at < length bytes.now) }
+    ensures zero { IfSome result (λ at. slice_index bytes.now at ≡ 0) }
+    ensures before { IfSome result (λ at. All (λ byte. byte ≢ 0) (take at bytes.now)) }
+{
+    bytes.iter().position(|byte| *byte == 0)
+}
+
+/// Whether all bytes are zero.
+fn are_zero(bytes: &[u8]) -> bool
+    ensures { IsTrue result ↔ All (λ byte. byte ≡ 0) bytes.now }
+{
+    bytes.iter().all(|byte| *byte == 0)
 }

@@ -1,6 +1,7 @@
 mod commands;
 mod first_kernel;
 mod streams;
+mod words;
 
 use kt_driver::{Status, run};
 use ports::{MemSink, MemSource};

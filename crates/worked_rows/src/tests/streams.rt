@@ -2,7 +2,6 @@ use ports::{
     MemSink, MemSource, ReadAllError, Sink, Source, StdSink, StdSource, SureSink, SureSource,
     WriteFault, read_all, write_all,
 };
-use spv_words::{Order, put_word, string_words};
 use std::io::{self, ErrorKind, Read, Write};
 use std::test::Fail;
 
@@ -111,23 +110,5 @@ fn streams_of_the_system_may_fail_on_the_way(rt: HostRuntime) -> Result<(), Fail
     let mut sink = StdSink::new(Flaky { calls: 0 });
     assert_eq!(rt; write_all(&mut sink, b"abc"), Err(WriteFault));
     assert_eq!(rt; write_all(&mut sink, b"abc"), Ok(()));
-    Ok(())
-}
-
-#[test]
-fn words_and_strings_of_a_binary(rt: HostRuntime) -> Result<(), Fail> {
-    let alloc = rt.alloc();
-    assert_eq!(rt; put_word(Order::Little, 0x0723_0203), [3, 2, 0x23, 7]);
-    assert_eq!(rt; put_word(Order::Big, 0x0723_0203), [7, 0x23, 2, 3]);
-    let cases: [(&str, &[u32]); 5] = [
-        ("", &[0]),
-        ("k", &[0x6B]),
-        ("abc", &[0x0063_6261]),
-        ("vadd", &[0x6464_6176, 0]),
-        ("\u{e9}mile", &[0x696D_A9C3, 0x656C]),
-    ];
-    for (text, words) in cases {
-        assert_eq!(rt; string_words(alloc, text)?.as_slice(), words, "{text}");
-    }
     Ok(())
 }

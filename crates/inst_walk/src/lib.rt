@@ -1,0 +1,24 @@
+//! What the walks over a function body need of an instruction set, and the walks: each is proved once
+//! for every instruction set that keeps the laws of `InstSet`.
+#![tactic(auto)]
+
+mod body;
+mod calls;
+mod definitions;
+mod flow;
+mod inst_set;
+mod places;
+mod renamed;
+mod renaming;
+mod uses;
+
+pub use body::{Block, Body};
+pub use calls::call_cycle;
+pub use flow::block_order;
+pub use inst_set::InstSet;
+pub use renamed::renumber;
+pub use renaming::Renaming;
+pub use uses::first_use_above;
+
+#[cfg(test)]
+mod tests;

@@ -1,0 +1,3 @@
+-- Lemmas on the text of events
+pub mod TextLemmas
+pub mod NumberLemmas

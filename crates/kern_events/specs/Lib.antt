@@ -1,0 +1,4 @@
+-- Events and their text
+pub mod Words
+pub mod Texts
+pub mod NumberLists

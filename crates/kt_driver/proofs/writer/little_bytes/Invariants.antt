@@ -1,8 +1,0 @@
-use Rattle.std.proofs.Common.{◌≡◌, take}
-use Rattle.spv_words.specs.declared.words.Order.TheVariants.{Little}
-use Rattle.spv_words.specs.Words.{words_bytes}
-use Rattle.kt_driver.proofs.writer.little_bytes.Given as goal
-
--- the bytes so far are those of the words so far
-abbrev pub invariant-loop-word : goal.invariant-loop-word
-invariant-loop-word l = l.bytes.items ≡ words_bytes Little (take l.word-index l.words)

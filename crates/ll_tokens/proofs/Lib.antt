@@ -1,0 +1,10 @@
+pub mod Between
+pub mod Blanks
+pub mod Ends
+pub mod Following
+pub mod Fronts
+pub mod OneKind
+pub mod Places
+pub mod Reaches
+pub mod Readings
+pub mod Separate

@@ -1,0 +1,7 @@
+pub mod Breaks
+pub mod Encoding
+pub mod Forms
+pub mod Gap
+pub mod Longest
+pub mod Reach
+pub mod Tokens
