@@ -1,18 +1,20 @@
 -- What a run does to its source and its sinks.
-use Rattle.std.specs.Prelude.{◌≡◌, ℕ, ◌≤◌, List, ◌++◌, [], ◌∷◌, codes, length, Option, Some, None, Result, Ok, Err, string_bytes, ◌≢◌}
+use Rattle.std.specs.Prelude.{◌≡◌, ◌≢◌, ℕ, ◌≤◌, List, [], ◌∷◌, ◌++◌, codes, length, Option, Some, None, Result, Ok, Err, string_bytes}
 use Rattle.std.specs.Io.KnownBytes.{IsAtEnd}
 use Rattle.ports.specs.Causes.{Rose}
 use Rattle.ports.specs.Streams.{Gives, GivesSome, GivesCount, Takes, TakesPrefix}
 use Rattle.spv_words.specs.declared.words.Order.TheVariants.{Little}
 use Rattle.spv_words.specs.Words.{words_bytes}
+use Rattle.kt_driver.specs.Listings.{IsListing, IsListingFault}
 use Rattle.kt_driver.specs.Refusals.{refusal_line}
 use Rattle.kt_driver.specs.declared.refusals.Refusal.{Refusal}
-use Rattle.kt_driver.specs.declared.refusals.Refusal.TheVariants.{TooLong, UndefinedName, Outside}
+use Rattle.kt_driver.specs.declared.refusals.Refusal.TheVariants.{TooLong, UndefinedName, Outside, Unreadable}
 use Rattle.kt_driver.specs.declared.reply.Reply.{Reply}
 use Rattle.kt_driver.specs.declared.reply.Reply.TheVariants.{Answer, Refuses}
 use Rattle.kt_driver.specs.declared.reply.ReplyError.{ReplyError}
 use Rattle.kt_driver.specs.declared.reply.ReplyError.TheVariants.{NoMemory, ReadFault}
 use Rattle.kt_driver.specs.declared.request.Request.{Request}
+use Rattle.kt_driver.specs.declared.request.Request.TheVariants.{Translate, Show}
 
 -- the line that tells how the words of a command line begin, with its line feed
 abbrev pub usage_line : List ℕ
@@ -23,24 +25,52 @@ pub record IsBinary (bytes : List ℕ) : Type 0 where
   pub words : List ℕ
   pub spelled : bytes ≡ words_bytes Little words
 
--- the source was read to its end, and gave no more bytes than an input may have
-pub record ReadsWhole (old new : Option (List ℕ)) : Type 0 where
-  pub given : List ℕ
-  pub within : length given ≤ 16777216
-  pub gives : Gives old new given
+-- the bytes that answer a request on an input
+abbrev pub IsAnswer : Request → List ℕ → List ℕ → Type 0
+IsAnswer (Translate from to order) input bytes = IsBinary bytes
+IsAnswer (Show from) input bytes = IsListing input bytes
+
+-- the refusals that a request may meet in an input that is not too long
+abbrev pub IsDue : Request → List ℕ → Refusal → Type 0
+IsDue request input TooLong = ⊥
+IsDue (Translate from to order) input (UndefinedName byte) = Unit {0}
+IsDue (Translate from to order) input Outside = Unit {0}
+IsDue (Translate from to order) input (Unreadable fault) = ⊥
+IsDue (Show from) input (UndefinedName byte) = ⊥
+IsDue (Show from) input Outside = ⊥
+IsDue (Show from) input (Unreadable fault) = IsListingFault input fault
+
+-- the source was read to its end, and gave this input, of no more bytes than an input may have
+pub record ReadsWhole (input : List ℕ) (old new : Option (List ℕ)) : Type 0 where
+  pub within : length input ≤ 16777216
+  pub gives : Gives old new input
   pub at_end : IsAtEnd new
 
--- how far a source is read for a refusal: one byte beyond the limit where the input is too long, else to its end
-abbrev pub ReadsFor : Refusal → Option (List ℕ) → Option (List ℕ) → Type 0
-ReadsFor TooLong old new = GivesCount 16777217 old new
-ReadsFor (UndefinedName byte) old new = ReadsWhole old new
-ReadsFor Outside old new = ReadsWhole old new
+-- the source was read to its end, and gave an input that is refused so
+pub record ReadsRefused (request : Request) (refusal : Refusal) (old new : Option (List ℕ)) : Type 0 where
+  pub input : List ℕ
+  pub reads : ReadsWhole input old new
+  pub due : IsDue request input refusal
+
+-- what is read for a refusal: one byte beyond the limit where the input is too long, else all of an input that is refused so
+abbrev pub ReadsFor : Request → Refusal → Option (List ℕ) → Option (List ℕ) → Type 0
+ReadsFor request TooLong old new = GivesCount 16777217 old new
+ReadsFor request (UndefinedName byte) old new = ReadsRefused request (UndefinedName byte) old new
+ReadsFor request Outside old new = ReadsRefused request Outside old new
+ReadsFor request (Unreadable fault) old new = ReadsRefused request (Unreadable fault) old new
+
+-- the source was read to its end, and these bytes answer the request on the input that it gave
+pub record ReadsAnswered (request : Request) (bytes : List ℕ) (old new : Option (List ℕ)) : Type 0 where
+  pub input : List ℕ
+  pub reads : ReadsWhole input old new
+  pub answer : IsAnswer request input bytes
 
 -- what a reply says, and how far the source was read for it
-abbrev pub Replies : Option (List ℕ) → Option (List ℕ) → Result Reply ReplyError → Type 0
-Replies old new (Ok (Answer bytes)) = IsBinary bytes.items × ReadsWhole old new
-Replies old new (Ok (Refuses refusal line)) = (string_bytes line ≡ refusal_line refusal) × ReadsFor refusal old new
-Replies old new (Err error) = GivesSome old new
+abbrev pub Replies : Request → Option (List ℕ) → Option (List ℕ) → Result Reply ReplyError → Type 0
+Replies request old new (Ok (Answer bytes)) = ReadsAnswered request bytes.items old new
+Replies request old new (Ok (Refuses refusal line)) =
+    (string_bytes line ≡ refusal_line refusal) × ReadsFor request refusal old new
+Replies request old new (Err error) = GivesSome old new
 
 -- the reply that tells this refusal, or want of memory
 abbrev pub IsRefusal : Refusal → Result Reply ReplyError → Type 0
@@ -48,39 +78,53 @@ IsRefusal refusal (Ok (Answer bytes)) = ⊥
 IsRefusal refusal (Ok (Refuses other line)) = (other ≡ refusal) × (string_bytes line ≡ refusal_line refusal)
 IsRefusal refusal (Err error) = error ≡ NoMemory
 
+-- the reply that a request is due on an input, or want of memory
+abbrev pub IsReply : Request → List ℕ → Result Reply ReplyError → Type 0
+IsReply request input (Ok (Answer bytes)) = IsAnswer request input bytes.items
+IsReply request input (Ok (Refuses refusal line)) =
+    (string_bytes line ≡ refusal_line refusal) × IsDue request input refusal
+IsReply request input (Err error) = error ≡ NoMemory
+
 -- the count of faults never falls, it has risen where the answer is that the source failed, and stays at every other answer
 pub record ReplyHasCause (before now : ℕ) (result : Result Reply ReplyError) : Type 0 where
   pub later : before ≤ now
   pub kept : result ≢ Err ReadFault → now ≡ before
   pub failed : result ≡ Err ReadFault → Rose before now
 
--- a refusal was told, and the source was read as far as that refusal wants
-pub record TellsRefusal (left_old left_new held_old held_new : Option (List ℕ)) : Type 0 where
+-- a refusal of the request was told, and the source was read as far as that refusal wants
+pub record TellsRefusal (request : Option Request) (left_old left_new held_old held_new : Option (List ℕ)) : Type 0 where
+  pub asked : Request
+  pub is_asked : request ≡ Some asked
   pub refusal : Refusal
   pub told : Takes held_old held_new (refusal_line refusal)
-  pub read : ReadsFor refusal left_old left_new
+  pub read : ReadsFor asked refusal left_old left_new
 
--- a binary was written
-pub record TakesBinary (held_old held_new : Option (List ℕ)) : Type 0 where
+-- the answer to the request was written
+pub record TakesAnswer (request : Option Request) (left_old left_new held_old held_new : Option (List ℕ)) : Type 0 where
+  pub asked : Request
+  pub is_asked : request ≡ Some asked
   pub bytes : List ℕ
-  pub binary : IsBinary bytes
+  pub read : ReadsAnswered asked bytes left_old left_new
   pub takes : Takes held_old held_new bytes
 
 -- the text that a run tells: the usage line where the words make no request, else the line of a refusal
-abbrev pub IsToldText : Option Request → List ℕ → Type 0
-IsToldText None text = text ≡ usage_line
-IsToldText (Some request) text = (refusal : Refusal) × (text ≡ refusal_line refusal)
+abbrev pub IsToldText : Option Request → Option (List ℕ) → Option (List ℕ) → List ℕ → Type 0
+IsToldText None left_old left_new text = text ≡ usage_line
+IsToldText (Some request) left_old left_new text =
+    (refusal : Refusal) × (text ≡ refusal_line refusal) × ReadsFor request refusal left_old left_new
 
 -- a prefix of the text that a run tells was written, and a write failed
-pub record FailsToTell (request : Option Request) (held_old held_new : Option (List ℕ)) (faults_old faults_new : ℕ) : Type 0 where
+pub record FailsToTell (request : Option Request) (left_old left_new held_old held_new : Option (List ℕ)) (faults_old faults_new : ℕ) : Type 0 where
   pub text : List ℕ
-  pub due : IsToldText request text
+  pub due : IsToldText request left_old left_new text
   pub takes : TakesPrefix held_old held_new text
   pub rose : Rose faults_old faults_new
 
--- a prefix of a binary was written, and a write failed
-pub record FailsToAnswer (held_old held_new : Option (List ℕ)) (faults_old faults_new : ℕ) : Type 0 where
+-- a prefix of the answer to the request was written, and a write failed
+pub record FailsToAnswer (request : Option Request) (left_old left_new held_old held_new : Option (List ℕ)) (faults_old faults_new : ℕ) : Type 0 where
+  pub asked : Request
+  pub is_asked : request ≡ Some asked
   pub bytes : List ℕ
-  pub binary : IsBinary bytes
+  pub read : ReadsAnswered asked bytes left_old left_new
   pub takes : TakesPrefix held_old held_new bytes
   pub rose : Rose faults_old faults_new

@@ -2,7 +2,7 @@ ghost use Rattle.std.specs.Prelude.{◌≡◌, ◌≢◌, ◌⊎◌, ◌^◌, �
 ghost use Rattle.ports.specs.Causes.{Rose};
 ghost use Rattle.ports.specs.Streams.{GivesSome, Takes};
 ghost use Rattle.kt_driver.specs.Requests.{request_of, texts_of};
-ghost use Rattle.kt_driver.specs.Runs.{usage_line, ReadsWhole, TellsRefusal, TakesBinary, FailsToTell, FailsToAnswer};
+ghost use Rattle.kt_driver.specs.Runs.{usage_line, TellsRefusal, TakesAnswer, FailsToTell, FailsToAnswer};
 
 use crate::reply::{Reply, ReplyError, reply_to};
 use crate::request::read_request;
@@ -32,15 +32,13 @@ pub fn run<S: Source, O: Sink, E: Sink>(
     ensures usage_line { result ≡ Status.Usage → Takes (E.held err.old) (E.held err.new) usage_line }
     ensures unread { request_of (texts_of words.now) ≡ None → src.new ≡ src.old }
 
-    // An answer is a binary, and comes where the whole source was read.
-    ensures ok_asked { result ≡ Status.Ok → IsSome (request_of (texts_of words.now)) }
-    ensures ok_read { result ≡ Status.Ok → ReadsWhole (S.left src.old) (S.left src.new) }
-    ensures ok_written { result ≡ Status.Ok → TakesBinary (O.held out.old) (O.held out.new) }
+    // An answer is that to the request on the whole input, to whose end the source was read.
+    ensures ok { result ≡ Status.Ok → TakesAnswer (request_of (texts_of words.now))
+        (S.left src.old) (S.left src.new) (O.held out.old) (O.held out.new) }
 
-    // A refusal comes where the whole source was read, or more of it than an input may have.
-    ensures refused_asked { result ≡ Status.Refused → IsSome (request_of (texts_of words.now)) }
-    ensures refused_told { result ≡ Status.Refused →
-        TellsRefusal (S.left src.old) (S.left src.new) (E.held err.old) (E.held err.new) }
+    // A refusal is one that is due on the whole input, or comes where it has more bytes than an input may have.
+    ensures refused { result ≡ Status.Refused → TellsRefusal (request_of (texts_of words.now))
+        (S.left src.old) (S.left src.new) (E.held err.old) (E.held err.new) }
 
     // A read fault comes only where a request was made and the source failed in this call.
     ensures read_fault_asked { result ≡ Status.ReadFault → IsSome (request_of (texts_of words.now)) }
@@ -50,8 +48,10 @@ pub fn run<S: Source, O: Sink, E: Sink>(
 
     // A write fault comes only where a sink failed in this call, which then took a prefix of its bytes.
     ensures write_fault { result ≡ Status.WriteFault →
-        FailsToAnswer (O.held out.old) (O.held out.new) (O.faults out.old) (O.faults out.new)
-        ⊎ FailsToTell (request_of (texts_of words.now)) (E.held err.old) (E.held err.new) (E.faults err.old) (E.faults err.new) }
+        FailsToAnswer (request_of (texts_of words.now)) (S.left src.old) (S.left src.new)
+            (O.held out.old) (O.held out.new) (O.faults out.old) (O.faults out.new)
+        ⊎ FailsToTell (request_of (texts_of words.now)) (S.left src.old) (S.left src.new)
+            (E.held err.old) (E.held err.new) (E.faults err.old) (E.faults err.new) }
     ensures out_count { result ≢ Status.WriteFault → O.faults out.new ≡ O.faults out.old }
     ensures err_count { result ≢ Status.WriteFault → E.faults err.new ≡ E.faults err.old }
 

@@ -6,6 +6,7 @@ mod driver;
 mod ids;
 mod kernel;
 mod layout;
+mod listing;
 mod opcode;
 mod reader;
 mod refusals;

@@ -15,6 +15,8 @@ pub enum Refusal {
     UndefinedName { byte: u64 },
     /// The text is outside the covered subset in another way.
     Outside,
+    /// The text can't be cut into tokens.
+    Unreadable(LlFault),
 }
 
 impl Refusal {
@@ -29,6 +31,7 @@ impl Refusal {
             },
             Refusal::UndefinedName { byte } => LlFault { rule: 20, byte },
             Refusal::Outside => LlFault { rule: 90, byte: 0 },
+            Refusal::Unreadable(fault) => fault,
         }
     }
 

@@ -1,10 +1,11 @@
 ghost use Rattle.std.specs.Prelude.{◌≡◌};
-ghost use Rattle.kt_driver.specs.Runs.{IsRefusal, Replies, ReplyHasCause};
+ghost use Rattle.kt_driver.specs.Runs.{IsRefusal, IsReply, Replies, ReplyHasCause};
 
+use crate::listing::listing;
 use crate::refusals::{Refusal, TranslateError};
 use crate::request::Request;
 use crate::translation::{MAX_BYTES, translate};
-use ports::{ReadAllError, Source, read_all};
+use ports::{LlError, ReadAllError, Source, read_all};
 use std::alloc::Global;
 
 /// All that a request makes to be written.
@@ -29,12 +30,23 @@ pub fn reply_to<S: Source>(
     request: Request,
     src: &mut S,
 ) -> Result<Reply, ReplyError>
-    ensures reply { Replies (S.left src.old) (S.left src.new) result }
+    ensures reply { Replies request (S.left src.old) (S.left src.new) result }
     ensures cause { ReplyHasCause (S.faults src.old) (S.faults src.new) result }
 {
-    let Request::Translate { .. } = request;
     match read_all(alloc, src, MAX_BYTES) {
-        Ok(input) => match translate(alloc, &input) {
+        Ok(input) => reply_on(alloc, request, &input),
+        Err(ReadAllError::TooLong) => refuse(alloc, Refusal::TooLong),
+        Err(ReadAllError::Failed) => Err(ReplyError::ReadFault),
+        Err(ReadAllError::NoMemory) => Err(ReplyError::NoMemory),
+    }
+}
+
+/// The reply to a request on the whole input.
+fn reply_on(alloc: Global, request: Request, input: &[u8]) -> Result<Reply, ReplyError>
+    ensures { IsReply request input.now result }
+{
+    match request {
+        Request::Translate { .. } => match translate(alloc, input) {
             Ok(bytes) => Ok(Reply::Answer(bytes)),
             Err(TranslateError::UndefinedName { byte }) => {
                 refuse(alloc, Refusal::UndefinedName { byte })
@@ -42,9 +54,11 @@ pub fn reply_to<S: Source>(
             Err(TranslateError::Outside) => refuse(alloc, Refusal::Outside),
             Err(TranslateError::NoMemory) => Err(ReplyError::NoMemory),
         },
-        Err(ReadAllError::TooLong) => refuse(alloc, Refusal::TooLong),
-        Err(ReadAllError::Failed) => Err(ReplyError::ReadFault),
-        Err(ReadAllError::NoMemory) => Err(ReplyError::NoMemory),
+        Request::Show { .. } => match listing(alloc, input) {
+            Ok(lines) => Ok(Reply::Answer(lines.into_bytes())),
+            Err(LlError::Fault(fault)) => refuse(alloc, Refusal::Unreadable(fault)),
+            Err(LlError::NoMemory) => Err(ReplyError::NoMemory),
+        },
     }
 }
 

@@ -21,6 +21,8 @@ pub enum Request {
         to: Format,
         order: Order,
     },
+    /// To list the parts of an input of this format.
+    Show { from: Format },
 }
 
 /// The request that the words make, if they make one.
@@ -39,6 +41,13 @@ pub fn read_request(words: &[String]) -> Option<Request>
                 to: Format::Spirv,
                 order: Order::Little,
             })
+        }
+        [command, from, source]
+            if command.as_str() == "show"
+                && from.as_str() == "--from"
+                && source.as_str() == "llvm" =>
+        {
+            Some(Request::Show { from: Format::Llvm })
         }
         _ => None,
     }
