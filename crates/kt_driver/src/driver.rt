@@ -49,9 +49,9 @@ pub fn run<S: Source, O: Sink, E: Sink>(
     // A write fault comes only where a sink failed in this call, which then took a prefix of its bytes.
     ensures write_fault { result ≡ Status.WriteFault →
         FailsToAnswer (request_of (texts_of words.now)) (S.left src.old) (S.left src.new)
-            (O.held out.old) (O.held out.new) (O.faults out.old) (O.faults out.new)
+        (O.held out.old) (O.held out.new) (O.faults out.old) (O.faults out.new)
         ⊎ FailsToTell (request_of (texts_of words.now)) (S.left src.old) (S.left src.new)
-            (E.held err.old) (E.held err.new) (E.faults err.old) (E.faults err.new) }
+        (E.held err.old) (E.held err.new) (E.faults err.old) (E.faults err.new) }
     ensures out_count { result ≢ Status.WriteFault → O.faults out.new ≡ O.faults out.old }
     ensures err_count { result ≢ Status.WriteFault → E.faults err.new ≡ E.faults err.old }
 

@@ -2,7 +2,7 @@
 #[derive(Drop)]
 pub struct Kernel<'a> {
     /// The name behind the `@`.
-    pub name: &'a [u8],
+    pub name: &'a str,
     pub parameters: Vec<Parameter<'a>>,
     pub instructions: Vec<Instruction<'a>>,
 }
@@ -26,7 +26,7 @@ pub enum ValueType {
 #[derive(Clone, Copy)]
 pub struct Local<'a> {
     /// What stands behind the `%`, a number without leading zeros.
-    pub name: &'a [u8],
+    pub name: &'a str,
     pub byte: u64,
 }
 

@@ -14,7 +14,7 @@ pub const MAX_BOUND: u32 = 0x3F_FFFF;
 /// A kernel whose values are known by their places, without names.
 #[derive(Drop)]
 pub struct Layout<'a> {
-    pub name: &'a [u8],
+    pub name: &'a str,
     pub parameters: Vec<ValueType>,
     pub instructions: Vec<Act>,
 }

@@ -14,7 +14,6 @@ mod reply;
 mod request;
 mod scope;
 mod status;
-mod tokens;
 mod translation;
 mod writer;
 

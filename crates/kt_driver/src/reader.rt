@@ -2,16 +2,16 @@ ghost use Rattle.std.specs.Prelude.{◌<◌, ◌≤◌, OnOk, IsTrue};
 
 use crate::kernel::{Instruction, Kernel, Local, Parameter, ValueType};
 use crate::refusals::TranslateError;
-use crate::tokens::{Token, TokenKind};
+use ll_tokens::{Token, TokenKind};
 use std::alloc::Global;
 use std::marker::Model;
 
 /// Reads the kernel that these tokens spell. Other tokens are outside the covered subset.
 pub fn read_kernel<'a>(alloc: Global, tokens: &[Token<'a>]) -> Result<Kernel<'a>, TranslateError> {
     let mut reader = Reader { tokens, at: 0 };
-    reader.word(b"define")?;
-    reader.word(b"spir_kernel")?;
-    reader.word(b"void")?;
+    reader.word("define")?;
+    reader.word("spir_kernel")?;
+    reader.word("void")?;
     let name = reader.kernel_name()?;
     let parameters = reader.parameters(alloc)?;
     let instructions = reader.instructions(alloc)?;
@@ -70,7 +70,7 @@ impl<'t, 'a> Reader<'t, 'a> {
     }
 
     /// Takes the next token, which has to be this one.
-    fn expect(&mut self, kind: TokenKind, text: &[u8]) -> Result<(), TranslateError>
+    fn expect(&mut self, kind: TokenKind, text: &str) -> Result<(), TranslateError>
         ensures shorter { OnOk result (self.new < self.old) }
         ensures no_longer { self.new ≤ self.old }
     {
@@ -82,22 +82,22 @@ impl<'t, 'a> Reader<'t, 'a> {
         }
     }
 
-    fn word(&mut self, text: &[u8]) -> Result<(), TranslateError>
+    fn word(&mut self, text: &str) -> Result<(), TranslateError>
         ensures shorter { OnOk result (self.new < self.old) }
         ensures no_longer { self.new ≤ self.old }
     {
         self.expect(TokenKind::Word, text)
     }
 
-    fn punctuation(&mut self, text: &[u8]) -> Result<(), TranslateError>
+    fn punctuation(&mut self, text: &str) -> Result<(), TranslateError>
         ensures shorter { OnOk result (self.new < self.old) }
         ensures no_longer { self.new ≤ self.old }
     {
-        self.expect(TokenKind::Punctuation, text)
+        self.expect(TokenKind::Punct, text)
     }
 
     /// Whether the next token is this one, which then stays.
-    fn is_at(&self, kind: TokenKind, text: &[u8]) -> bool
+    fn is_at(&self, kind: TokenKind, text: &str) -> bool
         ensures { IsTrue result → 0 < self.now }
     {
         if self.at == self.tokens.len() {
@@ -108,15 +108,15 @@ impl<'t, 'a> Reader<'t, 'a> {
     }
 
     /// Whether the next token is this keyword, which then stays.
-    fn is_at_word(&self, text: &[u8]) -> bool {
+    fn is_at_word(&self, text: &str) -> bool {
         self.is_at(TokenKind::Word, text)
     }
 
     /// Takes the next token where it is this punctuation.
-    fn accepts(&mut self, text: &[u8]) -> bool
+    fn accepts(&mut self, text: &str) -> bool
         ensures { self.new ≤ self.old }
     {
-        let is_next = self.is_at(TokenKind::Punctuation, text);
+        let is_next = self.is_at(TokenKind::Punct, text);
         if is_next {
             self.at += 1;
         }
@@ -124,34 +124,34 @@ impl<'t, 'a> Reader<'t, 'a> {
     }
 
     /// The name of a kernel, which does not begin as the built-ins' do.
-    fn kernel_name(&mut self) -> Result<&'a [u8], TranslateError> {
-        let name = name_of(self.next_of(TokenKind::Global)?);
-        if is_number(name) || name.starts_with(b"_Z") {
-            return Err(TranslateError::Outside);
+    fn kernel_name(&mut self) -> Result<&'a str, TranslateError> {
+        let token = self.next_of(TokenKind::Global)?;
+        match token.text.strip_prefix('@') {
+            Some(name) if is_plain(name) && !is_number(name) && !name.starts_with("_Z") => Ok(name),
+            _ => Err(TranslateError::Outside),
         }
-        Ok(name)
     }
 
     /// `(`, the parameters with commas between, and `)`.
     fn parameters(&mut self, alloc: Global) -> Result<Vec<Parameter<'a>>, TranslateError> {
         let mut parameters = Vec::new(alloc);
-        self.punctuation(b"(")?;
-        if self.accepts(b")") {
+        self.punctuation("(")?;
+        if self.accepts(")") {
             return Ok(parameters);
         }
         parameters.push(self.parameter()?)?;
-        while self.accepts(b",") {
+        while self.accepts(",") {
             parameters.push(self.parameter()?)?;
         }
-        self.punctuation(b")")?;
+        self.punctuation(")")?;
         Ok(parameters)
     }
 
     fn parameter(&mut self) -> Result<Parameter<'a>, TranslateError>
         ensures { OnOk result (self.new < self.old) }
     {
-        self.word(b"i32")?;
-        let value_type = if self.is_at_word(b"addrspace") {
+        self.word("i32")?;
+        let value_type = if self.is_at_word("addrspace") {
             self.pointer_suffix()?;
             ValueType::Pointer
         } else {
@@ -167,45 +167,48 @@ impl<'t, 'a> Reader<'t, 'a> {
     fn pointer_suffix(&mut self) -> Result<(), TranslateError>
         ensures { self.new ≤ self.old }
     {
-        self.word(b"addrspace")?;
-        self.punctuation(b"(")?;
-        self.expect(TokenKind::Integer, b"1")?;
-        self.punctuation(b")")?;
-        self.punctuation(b"*")
+        self.word("addrspace")?;
+        self.punctuation("(")?;
+        self.expect(TokenKind::Int, "1")?;
+        self.punctuation(")")?;
+        self.punctuation("*")
     }
 
     fn local(&mut self) -> Result<Local<'a>, TranslateError>
         ensures { self.new ≤ self.old }
     {
         let token = self.next_of(TokenKind::Local)?;
-        Ok(Local {
-            name: without_leading_zeros(name_of(token)),
-            byte: token.byte,
-        })
+        match token.text.strip_prefix('%') {
+            Some(name) if is_plain(name) => Ok(Local {
+                name: without_leading_zeros(name),
+                byte: token.byte,
+            }),
+            _ => Err(TranslateError::Outside),
+        }
     }
 
     /// `{`, the instructions up to the `ret void`, and `}`.
     fn instructions(&mut self, alloc: Global) -> Result<Vec<Instruction<'a>>, TranslateError> {
         let mut instructions = Vec::new(alloc);
-        self.punctuation(b"{")?;
-        while !self.is_at_word(b"ret") {
+        self.punctuation("{")?;
+        while !self.is_at_word("ret") {
             instructions.push(self.instruction()?)?;
         }
-        self.word(b"ret")?;
-        self.word(b"void")?;
-        self.punctuation(b"}")?;
+        self.word("ret")?;
+        self.word("void")?;
+        self.punctuation("}")?;
         Ok(instructions)
     }
 
     fn instruction(&mut self) -> Result<Instruction<'a>, TranslateError>
         ensures { OnOk result (self.new < self.old) }
     {
-        if self.is_at_word(b"store") {
+        if self.is_at_word("store") {
             return self.store();
         }
         let defined = self.local()?;
-        self.punctuation(b"=")?;
-        if self.is_at_word(b"add") {
+        self.punctuation("=")?;
+        if self.is_at_word("add") {
             self.add(defined)
         } else {
             self.load(defined)
@@ -215,10 +218,10 @@ impl<'t, 'a> Reader<'t, 'a> {
     fn add(&mut self, defined: Local<'a>) -> Result<Instruction<'a>, TranslateError>
         ensures { self.new ≤ self.old }
     {
-        self.word(b"add")?;
-        self.word(b"i32")?;
+        self.word("add")?;
+        self.word("i32")?;
         let left = self.local()?;
-        self.punctuation(b",")?;
+        self.punctuation(",")?;
         let right = self.local()?;
         Ok(Instruction::Add {
             result: defined,
@@ -230,9 +233,9 @@ impl<'t, 'a> Reader<'t, 'a> {
     fn load(&mut self, defined: Local<'a>) -> Result<Instruction<'a>, TranslateError>
         ensures { self.new ≤ self.old }
     {
-        self.word(b"load")?;
-        self.word(b"i32")?;
-        self.punctuation(b",")?;
+        self.word("load")?;
+        self.word("i32")?;
+        self.punctuation(",")?;
         let pointer = self.pointer()?;
         Ok(Instruction::Load {
             result: defined,
@@ -243,10 +246,10 @@ impl<'t, 'a> Reader<'t, 'a> {
     fn store(&mut self) -> Result<Instruction<'a>, TranslateError>
         ensures { OnOk result (self.new < self.old) }
     {
-        self.word(b"store")?;
-        self.word(b"i32")?;
+        self.word("store")?;
+        self.word("i32")?;
         let value = self.local()?;
-        self.punctuation(b",")?;
+        self.punctuation(",")?;
         let pointer = self.pointer()?;
         Ok(Instruction::Store { value, pointer })
     }
@@ -255,33 +258,29 @@ impl<'t, 'a> Reader<'t, 'a> {
     fn pointer(&mut self) -> Result<Local<'a>, TranslateError>
         ensures { self.new ≤ self.old }
     {
-        self.word(b"i32")?;
+        self.word("i32")?;
         self.pointer_suffix()?;
         self.local()
     }
 }
 
-/// What stands behind the `%` or `@` of a name.
-fn name_of<'a>(token: Token<'a>) -> &'a [u8] {
-    match token.text.split_first() {
-        Some((_, name)) => name,
-        None => token.text,
-    }
+/// Whether a name stands without quotes.
+fn is_plain(name: &str) -> bool {
+    !name.starts_with('"')
 }
 
 /// Whether a name is a number.
-pub fn is_number(name: &[u8]) -> bool {
-    match name.first() {
-        Some(byte) => byte.is_ascii_digit(),
-        None => false,
-    }
+pub fn is_number(name: &str) -> bool {
+    name.starts_with(|first: char| first.is_ascii_digit())
 }
 
 /// The one spelling of a number, and a name as it stands.
-fn without_leading_zeros(name: &[u8]) -> &[u8] {
-    let mut rest = name;
-    while rest.len() > 1 && rest[0] == b'0' {
-        rest = &rest[1..];
+fn without_leading_zeros(name: &str) -> &str {
+    if !is_number(name) {
+        return name;
     }
-    rest
+    match name.trim_start_matches('0') {
+        "" => "0",
+        digits => digits,
+    }
 }

@@ -22,7 +22,9 @@ pub enum Request {
         order: Order,
     },
     /// To list the parts of an input of this format.
-    Show { from: Format },
+    Show {
+        from: Format,
+    },
 }
 
 /// The request that the words make, if they make one.
@@ -45,10 +47,7 @@ pub fn read_request(words: &[String]) -> Option<Request>
         [command, from, source]
             if command.as_str() == "show"
                 && from.as_str() == "--from"
-                && source.as_str() == "llvm" =>
-        {
-            Some(Request::Show { from: Format::Llvm })
-        }
+                && source.as_str() == "llvm" => { Some(Request::Show { from: Format::Llvm }) }
         _ => None,
     }
 }

@@ -10,7 +10,7 @@ use std::alloc::Global;
 #[derive(Drop)]
 pub struct Scope<'a> {
     /// Each name once, in the order of the definitions.
-    names: IndexSet<&'a [u8]>,
+    names: IndexSet<&'a str>,
     /// The type of the value of each definition.
     types: Vec<ValueType>,
     /// The number that the next numbered definition has to have.
@@ -59,11 +59,11 @@ impl<'a> Scope<'a> {
     }
 
     /// Whether a definition's name is no number or the next one, which it then takes.
-    fn takes_number(&mut self, name: &[u8]) -> bool {
+    fn takes_number(&mut self, name: &str) -> bool {
         if !is_number(name) {
             return true;
         }
-        let is_next = number_of(name) == Some(self.next_number);
+        let is_next = name.parse::<u64>().ok() == Some(self.next_number);
         self.next_number = self.next_number.saturating_add(1);
         is_next
     }
@@ -110,9 +110,4 @@ impl<'a> Scope<'a> {
         self.fits = self.fits && index < self.above && is_of_type;
         Value::at(index)
     }
-}
-
-/// The number that digits spell, or `None` where it is 2^64 or more.
-fn number_of(digits: &[u8]) -> Option<u64> {
-    str::from_utf8(digits).ok()?.parse::<u64>().ok()
 }

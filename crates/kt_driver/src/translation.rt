@@ -5,8 +5,9 @@ use crate::canonical_text::text_len;
 use crate::layout::lay_out;
 use crate::reader::read_kernel;
 use crate::refusals::TranslateError;
-use crate::tokens::tokens;
 use crate::writer::module_words;
+use ll_tokens::{tokens, utf8};
+use ports::LlError;
 use spv_words::{Order, put_words};
 use std::alloc::Global;
 
@@ -17,10 +18,15 @@ pub const MAX_BYTES: u64 = 16_777_216;
 pub fn translate(alloc: Global, text: &[u8]) -> Result<Vec<u8>, TranslateError>
     ensures { IfOk result (λ bytes. IsBinary bytes.items) }
 {
-    if str::from_utf8(text).is_err() {
+    let Ok(text) = utf8(text) else {
         return Err(TranslateError::Outside);
-    }
-    let kernel = read_kernel(alloc, &tokens(alloc, text)?)?;
+    };
+    let tokens = match tokens(alloc, text) {
+        Ok(tokens) => tokens,
+        Err(LlError::Fault(_)) => return Err(TranslateError::Outside),
+        Err(LlError::NoMemory) => return Err(TranslateError::NoMemory),
+    };
+    let kernel = read_kernel(alloc, &tokens)?;
     let layout = lay_out(alloc, kernel)?;
     let words = module_words(alloc, &layout)?;
     if text_len(&layout) as u64 > MAX_BYTES || words.len() as u64 > MAX_BYTES / 4 {

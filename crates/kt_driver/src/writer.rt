@@ -44,14 +44,11 @@ impl Module {
     }
 
     /// Capabilities, memory model and entry point.
-    fn preamble(&mut self, alloc: Global, name: &[u8], ids: &Ids) -> Result<(), TranslateError> {
+    fn preamble(&mut self, alloc: Global, name: &str, ids: &Ids) -> Result<(), TranslateError> {
         self.instruction(Opcode::Capability, &[opcode::CAPABILITY_ADDRESSES])?;
         self.instruction(Opcode::Capability, &[opcode::CAPABILITY_KERNEL])?;
         let models = [opcode::ADDRESSING_PHYSICAL64, opcode::MEMORY_OPENCL];
         self.instruction(Opcode::MemoryModel, &models)?;
-        let Ok(name) = str::from_utf8(name) else {
-            return Err(TranslateError::Outside);
-        };
         let mut entry = Vec::from_slice(alloc, &[opcode::EXECUTION_KERNEL, ids.function])?;
         entry.extend_from_slice(&string_words(alloc, name)?)?;
         self.instruction(Opcode::EntryPoint, &entry)

@@ -1,5 +1,6 @@
 mod commands;
 mod first_kernel;
+mod listings;
 mod streams;
 mod words;
 
@@ -16,7 +17,7 @@ struct Ran {
     err: MemSink,
 }
 
-/// The words of the one command there is.
+/// The words that ask for a translation to SPIR-V.
 const TRANSLATE: [&str; 5] = ["translate", "--from", "llvm", "--to", "spirv"];
 
 /// How many bytes the sinks of these tests have room for.

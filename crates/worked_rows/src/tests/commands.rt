@@ -21,12 +21,14 @@ fn translate_failing(alloc: Global, read: &[u64], write: &[u64]) -> Result<Ran, 
 
 #[test]
 fn other_words_are_answered_by_the_usage_line(rt: HostRuntime) -> Result<(), Fail> {
-    let lists: [&[&str]; 6] = [
+    let lists: [&[&str]; 8] = [
         &[],
         &["translate", "--from", "llvm"],
         &["translate", "--to", "spirv", "--from", "llvm"],
         &["translate", "--from", "spirv", "--to", "spirv"],
         &["translate", "--from", "llvm", "--to", "spirv", "--order"],
+        &["show"],
+        &["show", "--from", "spirv"],
         &["--help"],
     ];
     for words in lists {

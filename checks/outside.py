@@ -1,0 +1,84 @@
+#!/usr/bin/env python3
+"""Compares the program with tools from outside, each skipped where it is missing.
+
+- spirv-val accepts the translation of each example.
+- What clang-14 prints for OpenCL C kernels is cut into tokens wholly, and the listing has every byte of it but blanks and
+  comments.
+
+usage: checks/outside.py [PROGRAM], where PROGRAM is crates/spirv_tool/out/spirv_tool unless it is given.
+"""
+
+import glob
+import os
+import re
+import shutil
+import subprocess
+import sys
+import tempfile
+
+HERE = os.path.dirname(os.path.abspath(__file__))
+
+KERNELS = {
+    "add": "kernel void add(global const int *a, global int *b) { size_t i = get_global_id(0); b[i] = a[i] + 7; }",
+    "loop": "kernel void sum(global int *p, int n) { int s = 0; for (int i = 0; i < n; i++) s += p[i]; *p = s; }",
+    "local": "kernel void swap(global int *p, local int *q) { size_t i = get_local_id(0); q[i] = p[i]; "
+             "barrier(CLK_LOCAL_MEM_FENCE); p[i] = q[get_local_size(0) - 1 - i]; }",
+    "switch": "kernel void pick(global char4 *p, int n) { switch (n) { case 1: p->x = 3; break; case 7: p->y = -1; } }",
+}
+
+CLANG = ["clang-14", "-target", "spir64", "-fwrapv", "-cl-std=CL1.2", "-Xclang", "-finclude-default-header",
+         "-emit-llvm", "-S", "-o", "-"]
+
+
+def run(command, data):
+    return subprocess.run(command, input=data, stdout=subprocess.PIPE, stderr=subprocess.PIPE)
+
+
+def without_gaps(text):
+    """A text without blanks and comments outside quotes."""
+    kept = re.sub(rb'("[^"]*")|;[^\n]*|[ \t\r\n]+', lambda found: found.group(1) or b"", text)
+    return kept
+
+
+def check_validator(program):
+    if not shutil.which("spirv-val"):
+        print("spirv-val is missing: skipped")
+        return 0
+    failures = 0
+    for example in sorted(glob.glob(os.path.join(HERE, "..", "examples", "*.ll"))):
+        with open(example, "rb") as file:
+            done = run([program, "translate", "--from", "llvm", "--to", "spirv"], file.read())
+        with tempfile.NamedTemporaryFile(suffix=".spv") as binary:
+            binary.write(done.stdout)
+            binary.flush()
+            verdict = run(["spirv-val", "--target-env", "opencl2.2", binary.name], b"")
+        passed = done.returncode == 0 and verdict.returncode == 0
+        failures += not passed
+        print(f"spirv-val {os.path.basename(example)}: {'ok' if passed else verdict.stderr.decode()}")
+    return failures
+
+
+def check_tokens(program):
+    if not shutil.which("clang-14"):
+        print("clang-14 is missing: skipped")
+        return 0
+    failures = 0
+    for name, source in KERNELS.items():
+        for level in ("-O0", "-O2"):
+            text = run(CLANG + [level, "-x", "cl", "-"], source.encode()).stdout
+            listed = run([program, "show", "--from", "llvm"], text)
+            tokens = b"".join(line.split(b": ", 1)[1] for line in listed.stdout.splitlines())
+            passed = text and listed.returncode == 0 and tokens == without_gaps(text)
+            failures += not passed
+            print(f"clang-14 {name} {level}: {'ok' if passed else listed.stderr.decode() or 'another text'}")
+    return failures
+
+
+def main():
+    default = os.path.join(HERE, "..", "crates", "spirv_tool", "out", "spirv_tool")
+    program = sys.argv[1] if len(sys.argv) > 1 else default
+    return 1 if check_validator(program) + check_tokens(program) else 0
+
+
+if __name__ == "__main__":
+    sys.exit(main())
