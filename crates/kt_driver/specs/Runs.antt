@@ -128,3 +128,8 @@ pub record FailsToAnswer (request : Option Request) (left_old left_new held_old 
   pub read : ReadsAnswered asked bytes left_old left_new
   pub takes : TakesPrefix held_old held_new bytes
   pub rose : Rose faults_old faults_new
+
+-- the words make a request, and nothing in this input is refused for it
+abbrev pub IsFree : Option Request → List ℕ → Type 0
+IsFree None input = ⊥
+IsFree (Some request) input = (length input ≤ 16777216) × ((refusal : Refusal) → IsDue request input refusal → ⊥)

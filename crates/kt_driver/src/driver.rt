@@ -1,8 +1,8 @@
-ghost use Rattle.std.specs.Prelude.{◌≡◌, ◌≢◌, ◌⊎◌, ◌^◌, ◌<◌, IsSome};
+ghost use Rattle.std.specs.Prelude.{◌≡◌, ◌≢◌, ◌⊎◌, ℕ, List, IsSome, Some};
 ghost use Rattle.ports.specs.Causes.{Rose};
 ghost use Rattle.ports.specs.Streams.{GivesSome, Takes};
 ghost use Rattle.kt_driver.specs.Requests.{request_of, texts_of};
-ghost use Rattle.kt_driver.specs.Runs.{usage_line, TellsRefusal, TakesAnswer, FailsToTell, FailsToAnswer};
+ghost use Rattle.kt_driver.specs.Runs.{usage_line, IsFree, TellsRefusal, TakesAnswer, FailsToTell, FailsToAnswer};
 
 use crate::reply::{Reply, ReplyError, reply_to};
 use crate::request::read_request;
@@ -54,6 +54,10 @@ pub fn run<S: Source, O: Sink, E: Sink>(
         (E.held err.old) (E.held err.new) (E.faults err.old) (E.faults err.new) }
     ensures out_count { result ≢ Status.WriteFault → O.faults out.new ≡ O.faults out.old }
     ensures err_count { result ≢ Status.WriteFault → E.faults err.new ≡ E.faults err.old }
+
+    // An input that nothing is refused in is answered, unless a call failed or memory is wanting.
+    ensures complete { (input : List ℕ) → S.left src.old ≡ Some input → IsFree (request_of (texts_of words.now)) input →
+        (result ≡ Status.Ok) ⊎ (result ≡ Status.NoMemory) ⊎ (result ≡ Status.ReadFault) ⊎ (result ≡ Status.WriteFault) }
 
     // Nothing else is written.
     ensures out_untouched { result ≢ Status.Ok → result ≢ Status.WriteFault → out.new ≡ out.old }

@@ -5,6 +5,7 @@ mod canonical_text;
 mod driver;
 mod ids;
 mod kernel;
+pub mod laws;
 mod layout;
 mod listing;
 mod opcode;

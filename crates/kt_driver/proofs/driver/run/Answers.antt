@@ -1,0 +1,16 @@
+-- An input that is refused is not free.
+use Rattle.std.proofs.Common.{◌≡◌, List, ℕ, subst, sym}
+use Rattle.std.specs.Prelude.{Option, Some}
+use Rattle.kt_driver.specs.declared.request.Request.{Request}
+use Rattle.kt_driver.specs.Requests.{request_of, texts_of}
+use Rattle.kt_driver.specs.Runs.{IsFree}
+use Rattle.kt_driver.proofs.Completeness.{free-not_refused}
+use Rattle.kt_driver.proofs.driver.run.Goals as goal
+
+pub returns-in-Ok-write_all-2-clause-complete : goal.returns-in-Ok-write_all-2-clause-complete
+returns-in-Ok-write_all-2-clause-complete g c =
+    λ input is free.
+    let reply = rw c.in-Ok-Refuses.field-0-is at c.in-Ok-Refuses.ensures.reply in
+    let P : Option Request → Type 0 = λ request. IsFree request input in
+    let asked : Some c.in-Some.request ≡ request_of (texts_of c.args.words.now) = c.in-Some.ensures in
+    absurd (free-not_refused c.in-Some.request _ input _ _ is (subst P (sym asked) free) reply.1)
