@@ -1,8 +1,7 @@
 -- What is refused is too long, or something in it is due to be refused.
-use Rattle.std.proofs.Common.{◌≡◌, ℕ, ◌+◌, ◌≤◌, List, [], ◌++◌, length, sym, ◌∙◌, ap, subst, append-nil, length-append, arith}
+use Rattle.std.proofs.Common.{◌≡◌, ℕ, ◌≤◌, List, ◌++◌, length, sym, ◌∙◌, ap, subst, append-nil, length-append, arith}
 use Rattle.std.specs.Prelude.{Option, Some, None}
-use Rattle.std.specs.Io.KnownBytes.{prepend_known, IsAtEnd}
-use Rattle.ports.specs.Streams.{Gives, GivesCount}
+use Rattle.ports.specs.Streams.{GivesCount}
 use Rattle.kt_driver.specs.declared.refusals.Refusal.{Refusal}
 use Rattle.kt_driver.specs.declared.refusals.Refusal.TheVariants.{TooLong, UndefinedName, Outside, Unreadable}
 use Rattle.kt_driver.specs.declared.request.Request.{Request}

@@ -1,5 +1,5 @@
 -- An input that is refused is not free.
-use Rattle.std.proofs.Common.{◌≡◌, List, ℕ, subst, sym}
+use Rattle.std.proofs.Common.{◌≡◌, subst, sym}
 use Rattle.std.specs.Prelude.{Option, Some}
 use Rattle.kt_driver.specs.declared.request.Request.{Request}
 use Rattle.kt_driver.specs.Requests.{request_of, texts_of}

@@ -1,9 +1,7 @@
-use Rattle.std.proofs.Common.{◌≡◌, ℕ, List, ◌⊎◌, [], length, ap, inl, inr, arith}
-use Rattle.std.specs.Prelude.{IsUtf8}
-use Rattle.ports.specs.declared.faults.LlFault.{LlFault}
+use Rattle.std.proofs.Common.{ℕ, List, [], length, ap, inl, inr, arith}
 use Rattle.ll_tokens.specs.Tokens.{IsTokenFault}
 use Rattle.ll_tokens.proofs.Places.{one_reading, no_token_at_end}
-use Rattle.kt_driver.specs.Listings.{IsListing, IsListingFault}
+use Rattle.kt_driver.specs.Listings.{IsListing}
 use Rattle.kt_driver.proofs.laws.listing_or_fault.Goals as goal
 
 -- a text with all its tokens, and with a place where none begins
