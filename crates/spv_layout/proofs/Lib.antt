@@ -1,0 +1,3 @@
+pub mod FindLemmas
+pub mod NameLemmas
+pub mod ExtraLemmas
