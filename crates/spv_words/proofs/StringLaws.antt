@@ -49,7 +49,7 @@ one-word_list order bytes words others first second =
     same-words order words others first.in_range second.in_range (sym first.spelled ∙ second.spelled)
 
 -- how many words a string takes
-count-string : (words text : List ℕ) (used : ℕ) → BeginsString words text used → 4 * used ≡ length text + (4 - length text % 4)
+pub count-string : (words text : List ℕ) (used : ℕ) → BeginsString words text used → 4 * used ≡ length text + (4 - length text % 4)
 count-string words text used string =
     let front : length (take used words) ≡ used = length-take-le used words string.within in
     let bytes : length (words_bytes Little (take used words)) ≡ length (terminated text) = ap length string.spelled in

@@ -1,0 +1,6 @@
+pub mod ReadStrings
+pub mod ReadLoops
+pub mod InstLemmas
+pub mod FramingLemmas
+pub mod StreamLaws
+pub mod FramingLaws

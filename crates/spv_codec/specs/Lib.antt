@@ -1,0 +1,6 @@
+pub mod Decoding
+pub mod Framing
+pub mod Ids
+pub mod Instructions
+pub mod Laws
+pub mod Operands
