@@ -118,7 +118,9 @@ fn are_all_zero(bytes: &[u8]) -> bool
 }
 
 /// Bytes in hexadecimal, by two lower-case digits each.
-fn hex_text(alloc: Global, bytes: &[u8]) -> Result<String, OutOfMemory>
+///
+/// `OutOfMemory` comes for want of memory alone.
+pub fn hex_text(alloc: Global, bytes: &[u8]) -> Result<String, OutOfMemory>
     ensures { IfOk result (λ text. string_bytes text ≡ flat_map hex_byte bytes.now) }
 {
     let mut text = String::new(alloc);

@@ -1,9 +1,9 @@
 -- What is refused is too long, or something in it is due to be refused.
 use Rattle.std.proofs.Common.{◌≡◌, ℕ, ◌≤◌, List, ◌++◌, length, sym, ◌∙◌, ap, subst, append-nil, length-append, arith}
 use Rattle.std.specs.Prelude.{Option, Some, None}
-use Rattle.ports.specs.Streams.{GivesCount}
+use Rattle.ports.specs.Streams.{GivesSome, GivesCount}
 use Rattle.kt_driver.specs.declared.refusals.Refusal.{Refusal}
-use Rattle.kt_driver.specs.declared.refusals.Refusal.TheVariants.{TooLong, UndefinedName, Outside, Unreadable}
+use Rattle.kt_driver.specs.declared.refusals.Refusal.TheVariants.{TooLong, UndefinedName, Outside, Unreadable, Misframed}
 use Rattle.kt_driver.specs.declared.request.Request.{Request}
 use Rattle.kt_driver.specs.Runs.{IsDue, IsFree, ReadsFor, ReadsRefused, ReadsWhole}
 
@@ -32,7 +32,16 @@ refused-due request refusal input old new is free reads =
 -- nothing is refused in an input that is free
 pub free-not_refused : (request : Request) (refusal : Refusal) (input : List ℕ) (old new : Option (List ℕ)) → old ≡ Some input
     → IsFree (Some request) input → ReadsFor request refusal old new → ⊥
-free-not_refused request TooLong input old new is free reads = too-many input old new is free.0 reads
+free-not_refused request (TooLong format) input old new is free reads = too-many input old new is free.0 reads.1
 free-not_refused request (UndefinedName byte) input old new is free reads = refused-due request (UndefinedName byte) input old new is free.1 reads
 free-not_refused request Outside input old new is free reads = refused-due request Outside input old new is free.1 reads
 free-not_refused request (Unreadable fault) input old new is free reads = refused-due request (Unreadable fault) input old new is free.1 reads
+free-not_refused request (Misframed fault) input old new is free reads = refused-due request (Misframed fault) input old new is free.1 reads
+
+-- what is read for a refusal is some bytes
+pub GivesSome-ReadsFor : (request : Request) (refusal : Refusal) (old new : Option (List ℕ)) → ReadsFor request refusal old new → GivesSome old new
+GivesSome-ReadsFor request (TooLong format) old new reads = record { given = reads.1.given; gives = reads.1.gives }
+GivesSome-ReadsFor request (UndefinedName byte) old new reads = record { given = reads.input; gives = reads.reads.gives }
+GivesSome-ReadsFor request Outside old new reads = record { given = reads.input; gives = reads.reads.gives }
+GivesSome-ReadsFor request (Unreadable fault) old new reads = record { given = reads.input; gives = reads.reads.gives }
+GivesSome-ReadsFor request (Misframed fault) old new reads = record { given = reads.input; gives = reads.reads.gives }

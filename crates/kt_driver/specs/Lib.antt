@@ -1,3 +1,4 @@
+pub mod BinaryListings
 pub mod Listings
 pub mod Refusals
 pub mod Requests

@@ -1,20 +1,31 @@
--- What is told of an input that is not translated.
+-- What is told of an input that is refused.
 use Rattle.std.specs.Prelude.{ℕ, List, [], ◌∷◌, ◌++◌, codes, decimal}
-use Rattle.ports.specs.declared.faults.LlFault.{LlFault}
+use Rattle.kt_driver.specs.declared.refusals.Fault.{Fault}
+use Rattle.kt_driver.specs.declared.refusals.Fault.TheVariants.{Text, Binary}
 use Rattle.kt_driver.specs.declared.refusals.Refusal.{Refusal}
-use Rattle.kt_driver.specs.declared.refusals.Refusal.TheVariants.{TooLong, UndefinedName, Outside, Unreadable}
+use Rattle.kt_driver.specs.declared.refusals.Refusal.TheVariants.{TooLong, UndefinedName, Outside, Unreadable, Misframed}
+use Rattle.kt_driver.specs.declared.request.Format.{Format}
+use Rattle.kt_driver.specs.declared.request.Format.TheVariants.{Llvm, Spirv}
 
--- the rule and the place of a refusal: an input that is too long is refused at its first byte beyond the limit
-abbrev pub fault_of : Refusal → LlFault
-fault_of TooLong = record { rule = 15; byte = 16777216 }
-fault_of (UndefinedName byte) = record { rule = 20; byte = byte }
-fault_of Outside = record { rule = 90; byte = 0 }
-fault_of (Unreadable fault) = fault
+-- an input that is too long is refused at its first byte or word beyond the limit
+abbrev pub too_long_fault : Format → Fault
+too_long_fault Llvm = Text (record { rule = 15; byte = 16777216 })
+too_long_fault Spirv = Binary (record { rule = 15; word = 4194304 })
+
+-- the rule and the place of a refusal
+abbrev pub fault_of : Refusal → Fault
+fault_of (TooLong format) = too_long_fault format
+fault_of (UndefinedName byte) = Text (record { rule = 20; byte = byte })
+fault_of Outside = Text (record { rule = 90; byte = 0 })
+fault_of (Unreadable fault) = Text fault
+fault_of (Misframed fault) = Binary fault
 
 -- the line that tells a fault, with its line feed
-abbrev pub fault_line : LlFault → List ℕ
-fault_line fault =
+abbrev pub fault_line : Fault → List ℕ
+fault_line (Text fault) =
     codes "refused: rule L" ++ (decimal fault.rule ++ (codes " at byte " ++ (decimal fault.byte ++ 10 ∷ [])))
+fault_line (Binary fault) =
+    codes "refused: rule S" ++ (decimal fault.rule ++ (codes " at word " ++ (decimal fault.word ++ 10 ∷ [])))
 
 abbrev pub refusal_line : Refusal → List ℕ
 refusal_line refusal = fault_line (fault_of refusal)

@@ -3,16 +3,22 @@ use Rattle.std.specs.Prelude.{◌≡◌, ◌≢◌, ℕ, ◌≤◌, List, [], �
 use Rattle.std.specs.Io.KnownBytes.{IsAtEnd}
 use Rattle.ports.specs.Causes.{Rose}
 use Rattle.ports.specs.Streams.{Gives, GivesSome, GivesCount, Takes, TakesPrefix}
-use Rattle.spv_words.specs.declared.words.Order.TheVariants.{Little}
+use Rattle.spv_words.specs.declared.words.Order.{Order}
 use Rattle.spv_words.specs.Words.{words_bytes}
+use Rattle.spv_codec.specs.declared.module.RawModule.{RawModule}
+use Rattle.spv_codec.specs.Framing.{module_words, IsFramingFault}
+use Rattle.kt_driver.specs.BinaryListings.{IsBinaryListing}
 use Rattle.kt_driver.specs.Listings.{IsListing, IsListingFault}
+use Rattle.kt_driver.specs.Requests.{input_format}
 use Rattle.kt_driver.specs.Refusals.{refusal_line}
 use Rattle.kt_driver.specs.declared.refusals.Refusal.{Refusal}
-use Rattle.kt_driver.specs.declared.refusals.Refusal.TheVariants.{TooLong, UndefinedName, Outside, Unreadable}
+use Rattle.kt_driver.specs.declared.refusals.Refusal.TheVariants.{TooLong, UndefinedName, Outside, Unreadable, Misframed}
 use Rattle.kt_driver.specs.declared.reply.Reply.{Reply}
 use Rattle.kt_driver.specs.declared.reply.Reply.TheVariants.{Answer, Refuses}
 use Rattle.kt_driver.specs.declared.reply.ReplyError.{ReplyError}
 use Rattle.kt_driver.specs.declared.reply.ReplyError.TheVariants.{NoMemory, ReadFault}
+use Rattle.kt_driver.specs.declared.request.Format.{Format}
+use Rattle.kt_driver.specs.declared.request.Format.TheVariants.{Llvm, Spirv}
 use Rattle.kt_driver.specs.declared.request.Request.{Request}
 use Rattle.kt_driver.specs.declared.request.Request.TheVariants.{Translate, Show}
 
@@ -20,25 +26,43 @@ use Rattle.kt_driver.specs.declared.request.Request.TheVariants.{Translate, Show
 abbrev pub usage_line : List ℕ
 usage_line = codes "usage: spirv_tool translate|check|show|replay|sample [options]" ++ 10 ∷ []
 
--- the bytes are whole words in little order
-pub record IsBinary (bytes : List ℕ) : Type 0 where
-  pub words : List ℕ
-  pub spelled : bytes ≡ words_bytes Little words
+-- the bytes are those of a module's words in this order
+pub record IsBinary (order : Order) (bytes : List ℕ) : Type 0 where
+  pub raw : RawModule
+  pub spelled : bytes ≡ words_bytes order (module_words raw)
+
+-- the bytes list the parts of an input of this format
+abbrev pub IsListed : Format → List ℕ → List ℕ → Type 0
+IsListed Llvm input bytes = IsListing input bytes
+IsListed Spirv input bytes = IsBinaryListing input bytes
 
 -- the bytes that answer a request on an input
 abbrev pub IsAnswer : Request → List ℕ → List ℕ → Type 0
-IsAnswer (Translate from to order) input bytes = IsBinary bytes
-IsAnswer (Show from) input bytes = IsListing input bytes
+IsAnswer (Translate from to order) input bytes = IsBinary order bytes
+IsAnswer (Show from) input bytes = IsListed from input bytes
+
+-- the refusals that a translation may meet in a text that is not too long
+abbrev pub IsUntranslated : Refusal → Type 0
+IsUntranslated (TooLong format) = ⊥
+IsUntranslated (UndefinedName byte) = Unit {0}
+IsUntranslated Outside = Unit {0}
+IsUntranslated (Unreadable fault) = ⊥
+IsUntranslated (Misframed fault) = ⊥
+
+-- the refusals that a listing may meet in an input of this format that is not too long
+abbrev pub IsUnlisted : Format → List ℕ → Refusal → Type 0
+IsUnlisted format input (TooLong other) = ⊥
+IsUnlisted format input (UndefinedName byte) = ⊥
+IsUnlisted format input Outside = ⊥
+IsUnlisted Llvm input (Unreadable fault) = IsListingFault input fault
+IsUnlisted Spirv input (Unreadable fault) = ⊥
+IsUnlisted Llvm input (Misframed fault) = ⊥
+IsUnlisted Spirv input (Misframed fault) = IsFramingFault input fault
 
 -- the refusals that a request may meet in an input that is not too long
 abbrev pub IsDue : Request → List ℕ → Refusal → Type 0
-IsDue request input TooLong = ⊥
-IsDue (Translate from to order) input (UndefinedName byte) = Unit {0}
-IsDue (Translate from to order) input Outside = Unit {0}
-IsDue (Translate from to order) input (Unreadable fault) = ⊥
-IsDue (Show from) input (UndefinedName byte) = ⊥
-IsDue (Show from) input Outside = ⊥
-IsDue (Show from) input (Unreadable fault) = IsListingFault input fault
+IsDue (Translate from to order) input refusal = IsUntranslated refusal
+IsDue (Show from) input refusal = IsUnlisted from input refusal
 
 -- the source was read to its end, and gave this input, of no more bytes than an input may have
 pub record ReadsWhole (input : List ℕ) (old new : Option (List ℕ)) : Type 0 where
@@ -54,10 +78,11 @@ pub record ReadsRefused (request : Request) (refusal : Refusal) (old new : Optio
 
 -- what is read for a refusal: one byte beyond the limit where the input is too long, else all of an input that is refused so
 abbrev pub ReadsFor : Request → Refusal → Option (List ℕ) → Option (List ℕ) → Type 0
-ReadsFor request TooLong old new = GivesCount 16777217 old new
+ReadsFor request (TooLong format) old new = (format ≡ input_format request) × GivesCount 16777217 old new
 ReadsFor request (UndefinedName byte) old new = ReadsRefused request (UndefinedName byte) old new
 ReadsFor request Outside old new = ReadsRefused request Outside old new
 ReadsFor request (Unreadable fault) old new = ReadsRefused request (Unreadable fault) old new
+ReadsFor request (Misframed fault) old new = ReadsRefused request (Misframed fault) old new
 
 -- the source was read to its end, and these bytes answer the request on the input that it gave
 pub record ReadsAnswered (request : Request) (bytes : List ℕ) (old new : Option (List ℕ)) : Type 0 where

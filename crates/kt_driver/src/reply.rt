@@ -1,11 +1,13 @@
-ghost use Rattle.std.specs.Prelude.{◌≡◌};
+ghost use Rattle.std.specs.Prelude.{◌<◌, ◌^◌, length};
 ghost use Rattle.kt_driver.specs.Runs.{IsRefusal, IsReply, Replies, ReplyHasCause};
 
+use crate::binary_listing::binary_listing;
 use crate::listing::listing;
 use crate::refusals::{Refusal, TranslateError};
-use crate::request::Request;
+use crate::request::{Format, Request};
 use crate::translation::{MAX_BYTES, translate};
-use ports::{LlError, ReadAllError, Source, read_all};
+use ports::{LlError, ReadAllError, Source, SpvError, read_all};
+use spv_words::Order;
 use std::alloc::Global;
 
 /// All that a request makes to be written.
@@ -35,7 +37,7 @@ pub fn reply_to<S: Source>(
 {
     match read_all(alloc, src, MAX_BYTES) {
         Ok(input) => reply_on(alloc, request, &input),
-        Err(ReadAllError::TooLong) => refuse(alloc, Refusal::TooLong),
+        Err(ReadAllError::TooLong) => refuse(alloc, Refusal::TooLong(request.input_format())),
         Err(ReadAllError::Failed) => Err(ReplyError::ReadFault),
         Err(ReadAllError::NoMemory) => Err(ReplyError::NoMemory),
     }
@@ -43,22 +45,52 @@ pub fn reply_to<S: Source>(
 
 /// The reply to a request on the whole input.
 fn reply_on(alloc: Global, request: Request, input: &[u8]) -> Result<Reply, ReplyError>
+    requires { length input.now < 2 ^ 63 }
     ensures { IsReply request input.now result }
 {
     match request {
-        Request::Translate { .. } => match translate(alloc, input) {
-            Ok(bytes) => Ok(Reply::Answer(bytes)),
-            Err(TranslateError::UndefinedName { byte }) => {
-                refuse(alloc, Refusal::UndefinedName { byte })
-            }
-            Err(TranslateError::Outside) => refuse(alloc, Refusal::Outside),
-            Err(TranslateError::NoMemory) => Err(ReplyError::NoMemory),
-        },
-        Request::Show { .. } => match listing(alloc, input) {
-            Ok(lines) => Ok(Reply::Answer(lines.into_bytes())),
-            Err(LlError::Fault(fault)) => refuse(alloc, Refusal::Unreadable(fault)),
-            Err(LlError::NoMemory) => Err(ReplyError::NoMemory),
-        },
+        Request::Translate { order, .. } => translated(alloc, input, order),
+        Request::Show { from: Format::Llvm } => listed(alloc, input),
+        Request::Show {
+            from: Format::Spirv,
+        } => binary_listed(alloc, input),
+    }
+}
+
+/// The reply to a translation.
+fn translated(alloc: Global, input: &[u8], order: Order) -> Result<Reply, ReplyError>
+    ensures { IsReply (Request.Translate Format.Llvm Format.Spirv order) input.now result }
+{
+    match translate(alloc, input, order) {
+        Ok(bytes) => Ok(Reply::Answer(bytes)),
+        Err(TranslateError::UndefinedName { byte }) => {
+            refuse(alloc, Refusal::UndefinedName { byte })
+        }
+        Err(TranslateError::Outside) => refuse(alloc, Refusal::Outside),
+        Err(TranslateError::NoMemory) => Err(ReplyError::NoMemory),
+    }
+}
+
+/// The reply to the listing of a text.
+fn listed(alloc: Global, input: &[u8]) -> Result<Reply, ReplyError>
+    ensures { IsReply (Request.Show Format.Llvm) input.now result }
+{
+    match listing(alloc, input) {
+        Ok(lines) => Ok(Reply::Answer(lines.into_bytes())),
+        Err(LlError::Fault(fault)) => refuse(alloc, Refusal::Unreadable(fault)),
+        Err(LlError::NoMemory) => Err(ReplyError::NoMemory),
+    }
+}
+
+/// The reply to the listing of a binary.
+fn binary_listed(alloc: Global, input: &[u8]) -> Result<Reply, ReplyError>
+    requires { length input.now < 2 ^ 63 }
+    ensures { IsReply (Request.Show Format.Spirv) input.now result }
+{
+    match binary_listing(alloc, input) {
+        Ok(lines) => Ok(Reply::Answer(lines.into_bytes())),
+        Err(SpvError::Fault(fault)) => refuse(alloc, Refusal::Misframed(fault)),
+        Err(SpvError::NoMemory) => Err(ReplyError::NoMemory),
     }
 }
 

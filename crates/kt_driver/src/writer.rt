@@ -1,35 +1,64 @@
+ghost use Rattle.std.specs.Prelude.{◌<◌, length, All};
+
+use crate::constants;
 use crate::ids::Ids;
 use crate::kernel::ValueType;
 use crate::layout::{Act, Layout, Value};
-use crate::opcode::{self, Opcode};
 use crate::refusals::TranslateError;
-use ports::OutOfMemory;
-use spv_words::{MAGIC, string_words};
+use spv_codec::{RawInst, RawModule};
+use spv_layout::Opcode;
+use spv_words::{Order, string_words};
+use sqlite_items::Items;
 use std::alloc::Global;
 
-/// The words of the module of a kernel (SPIR-V 1.2, 2.4, "Logical Layout of a Module").
-pub fn module_words(alloc: Global, layout: &Layout<'_>) -> Result<Vec<u32>, TranslateError> {
-    let ids = Ids::of(layout)?;
-    let mut module = Module::new(alloc, ids.bound)?;
-    module.preamble(alloc, layout.name, &ids)?;
-    module.types(alloc, &layout.parameters, &ids)?;
-    module.function(layout, &ids)?;
-    let Module { words } = module;
-    Ok(words)
-}
+/// How many words a module's header has.
+const HEADER_LEN: u64 = 5;
 
-/// The words of a module, which grow by an instruction at a time.
+/// A module that grows by an instruction at a time.
 #[derive(Drop)]
-struct Module {
-    words: Vec<u32>,
+pub struct Module {
+    alloc: Global,
+    raw: RawModule,
+    words: u64,
+    ghost short: { All (λ inst. length inst.operands < 65535) raw.insts },
 }
 
 impl Module {
-    /// The header of a module with this bound (SPIR-V 1.2, 2.3, "Physical Layout of a SPIR-V Module and Instruction").
-    fn new(alloc: Global, bound: u32) -> Result<Module, OutOfMemory> {
-        let mut words = Vec::new(alloc);
-        words.extend_from_slice(&[MAGIC, opcode::VERSION, opcode::GENERATOR, bound, 0])?;
-        Ok(Module { words })
+    /// The module of a kernel (SPIR-V 1.2, 2.4, "Logical Layout of a Module").
+    pub fn of(alloc: Global, layout: &Layout<'_>) -> Result<Module, TranslateError> {
+        let ids = Ids::of(layout)?;
+        let mut module = Module::new(alloc, ids.bound);
+        module.preamble(layout.name, &ids)?;
+        module.types(&layout.parameters, &ids)?;
+        module.function(layout, &ids)?;
+        Ok(module)
+    }
+
+    /// A module with this bound and no instruction yet.
+    fn new(alloc: Global, bound: u32) -> Module {
+        Module {
+            alloc,
+            raw: RawModule {
+                order: Order::Little,
+                version: constants::VERSION,
+                generator: constants::GENERATOR,
+                bound,
+                insts: Items::new(alloc),
+            },
+            words: HEADER_LEN,
+        }
+    }
+
+    /// The module.
+    pub fn raw(&self) -> &RawModule
+        ensures { All (λ inst. length inst.operands < 65535) result.now.insts }
+    {
+        &self.raw
+    }
+
+    /// How many words it has.
+    pub fn words(&self) -> u64 {
+        self.words
     }
 
     /// One more instruction. One of more than 65,535 words can't be written, and is outside the covered subset.
@@ -37,39 +66,38 @@ impl Module {
         if operands.len() >= 0xFFFF {
             return Err(TranslateError::Outside);
         }
-        let word_count = operands.len() as u32 + 1;
-        self.words.push(word_count * 0x1_0000 + opcode as u32)?;
-        self.words.extend_from_slice(operands)?;
+        let inst = RawInst {
+            op: opcode.number(),
+            place: self.words,
+            operands: Items::from_slice(self.alloc, operands)?,
+        };
+        self.raw.insts.push(inst)?;
+        self.words = self.words.saturating_add(operands.len() as u64 + 1);
         Ok(())
     }
 
     /// Capabilities, memory model and entry point.
-    fn preamble(&mut self, alloc: Global, name: &str, ids: &Ids) -> Result<(), TranslateError> {
-        self.instruction(Opcode::Capability, &[opcode::CAPABILITY_ADDRESSES])?;
-        self.instruction(Opcode::Capability, &[opcode::CAPABILITY_KERNEL])?;
-        let models = [opcode::ADDRESSING_PHYSICAL64, opcode::MEMORY_OPENCL];
+    fn preamble(&mut self, name: &str, ids: &Ids) -> Result<(), TranslateError> {
+        self.instruction(Opcode::Capability, &[constants::CAPABILITY_ADDRESSES])?;
+        self.instruction(Opcode::Capability, &[constants::CAPABILITY_KERNEL])?;
+        let models = [constants::ADDRESSING_PHYSICAL64, constants::MEMORY_OPENCL];
         self.instruction(Opcode::MemoryModel, &models)?;
-        let mut entry = Vec::from_slice(alloc, &[opcode::EXECUTION_KERNEL, ids.function])?;
-        entry.extend_from_slice(&string_words(alloc, name)?)?;
+        let mut entry = Vec::from_slice(self.alloc, &[constants::EXECUTION_KERNEL, ids.function])?;
+        entry.extend_from_slice(&string_words(self.alloc, name)?)?;
         self.instruction(Opcode::EntryPoint, &entry)
     }
 
     /// The types that the function needs, each behind those that it is made of.
-    fn types(
-        &mut self,
-        alloc: Global,
-        parameters: &[ValueType],
-        ids: &Ids,
-    ) -> Result<(), TranslateError> {
+    fn types(&mut self, parameters: &[ValueType], ids: &Ids) -> Result<(), TranslateError> {
         self.instruction(Opcode::TypeVoid, &[ids.void])?;
         if !parameters.is_empty() {
             self.instruction(Opcode::TypeInt, &[ids.int, 32, 0])?;
         }
         if parameters.contains(&ValueType::Pointer) {
-            let pointer = [ids.pointer, opcode::STORAGE_CROSS_WORKGROUP, ids.int];
+            let pointer = [ids.pointer, constants::STORAGE_CROSS_WORKGROUP, ids.int];
             self.instruction(Opcode::TypePointer, &pointer)?;
         }
-        let mut function = Vec::from_slice(alloc, &[ids.function_type, ids.void])?;
+        let mut function = Vec::from_slice(self.alloc, &[ids.function_type, ids.void])?;
         for parameter in parameters {
             function.push(ids.value_type(*parameter))?;
         }
@@ -111,8 +139,8 @@ impl Module {
                     ids.int,
                     ids.value(loaded),
                     ids.value(pointer),
-                    opcode::ACCESS_ALIGNED,
-                    opcode::INT_ALIGNMENT,
+                    constants::ACCESS_ALIGNED,
+                    constants::INT_ALIGNMENT,
                 ];
                 self.instruction(Opcode::Load, &operands)
             }
@@ -120,8 +148,8 @@ impl Module {
                 let operands = [
                     ids.value(pointer),
                     ids.value(value),
-                    opcode::ACCESS_ALIGNED,
-                    opcode::INT_ALIGNMENT,
+                    constants::ACCESS_ALIGNED,
+                    constants::INT_ALIGNMENT,
                 ];
                 self.instruction(Opcode::Store, &operands)
             }

@@ -4,7 +4,7 @@ use Rattle.std.specs.Prelude.{Option, Some}
 use Rattle.kt_driver.specs.declared.request.Request.{Request}
 use Rattle.kt_driver.specs.Requests.{request_of, texts_of}
 use Rattle.kt_driver.specs.Runs.{IsFree}
-use Rattle.kt_driver.proofs.Completeness.{free-not_refused}
+use Rattle.kt_driver.proofs.Completeness.{free-not_refused, GivesSome-ReadsFor}
 use Rattle.kt_driver.proofs.driver.run.Goals as goal
 
 pub returns-in-Ok-write_all-2-clause-complete : goal.returns-in-Ok-write_all-2-clause-complete
@@ -14,3 +14,13 @@ returns-in-Ok-write_all-2-clause-complete g c =
     let P : Option Request → Type 0 = λ request. IsFree request input in
     let asked : Some c.in-Some.request ≡ request_of (texts_of c.args.words.now) = c.in-Some.ensures in
     absurd (free-not_refused c.in-Some.request _ input _ _ is (subst P (sym asked) free) reply.1)
+
+pub returns-in-Ok-write_all-2-clause-source_gave : goal.returns-in-Ok-write_all-2-clause-source_gave
+returns-in-Ok-write_all-2-clause-source_gave g c =
+    let reply = rw c.in-Ok-Refuses.field-0-is at c.in-Ok-Refuses.ensures.reply in
+    GivesSome-ReadsFor c.in-Some.request _ _ _ reply.1
+
+pub returns-in-Ok-Refuses-clause-source_gave : goal.returns-in-Ok-Refuses-clause-source_gave
+returns-in-Ok-Refuses-clause-source_gave g c =
+    let reply = rw c.in-Ok-Refuses.field-0-is at c.in-Ok-Refuses.ensures.reply in
+    GivesSome-ReadsFor c.in-Some.request _ _ _ reply.1

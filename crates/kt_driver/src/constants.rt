@@ -1,24 +1,6 @@
-/// The instructions that the covered subset needs (SPIR-V 1.2, 3.32, "Instructions").
-#[derive(Clone, Copy, Debug, PartialEq, Eq)]
-pub enum Opcode {
-    MemoryModel = 14,
-    EntryPoint = 15,
-    Capability = 17,
-    TypeVoid = 19,
-    TypeInt = 21,
-    TypePointer = 32,
-    TypeFunction = 33,
-    Function = 54,
-    FunctionParameter = 55,
-    FunctionEnd = 56,
-    Load = 61,
-    Store = 62,
-    IAdd = 128,
-    Label = 248,
-    Return = 253,
-}
+//! The enumerants and words that the covered subset needs (SPIR-V 1.2, 3).
 
-/// `Addresses`: the module has pointers of a size that it knows (SPIR-V 1.2, 3.31, "Capability").
+/// `Addresses`: the module has pointers of a size that it knows (3.31, "Capability").
 pub const CAPABILITY_ADDRESSES: u32 = 4;
 
 /// `Kernel`: the module uses the execution model of kernels.
