@@ -20,6 +20,6 @@ pub use item::{Inputs, Item, Numbers};
 pub use lanes::Lanes;
 pub use listing::read_numbers;
 pub use numbers::NumbersError;
-pub use parts::hex_text;
 pub use outcome::{FaultKind, Outcome, StartError, outcome_text};
+pub use parts::hex_text;
 pub use text::event_text;

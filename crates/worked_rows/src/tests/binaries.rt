@@ -209,11 +209,196 @@ fn bytes_can_come_one_at_a_time(rt: HostRuntime) -> Result<(), Fail> {
     }
     let raw = decoder.finish()?;
     assert_eq!(rt; raw.order, Order::Big);
-    assert_eq!(rt; raw.insts.len(), 9);
+    assert_eq!(rt; raw.insts.len(), 10);
     let little_bytes = encode(alloc, &raw, Order::Little)?;
     assert_eq!(rt;
         little_bytes.as_slice(),
         little(alloc, &EMPTY_KERNEL)?.as_slice()
     );
+    Ok(())
+}
+
+#[test]
+fn a_binary_is_refused_by_the_first_rule_that_it_breaks(rt: HostRuntime) -> Result<(), Fail> {
+    let alloc = rt.alloc();
+    let whole = little(alloc, &EMPTY_KERNEL)?;
+    assert_eq!(rt; refusal(&show(alloc, &[])?), (2, 0));
+    assert_eq!(rt; refusal(&show(alloc, &whole[..3])?), (1, 0));
+    assert_eq!(rt; refusal(&show(alloc, &whole[..19])?), (2, 0));
+    assert_eq!(rt; refusal(&show(alloc, &whole[..119])?), (1, 29));
+    // Each word of the header, and then two at once.
+    let headers: [([u32; 5], (u16, u64)); 9] = [
+        ([0x0723_0204, 0x0001_0200, 0, 1, 0], (3, 0)),
+        ([0x0723_0203, 0x0001_0300, 0, 1, 0], (4, 1)),
+        ([0x0723_0203, 0x0001_0000, 0, 1, 0], (0, 0)),
+        ([0x0723_0203, 0x0001_0200, 7, 0x003F_FFFF, 0], (0, 0)),
+        ([0x0723_0203, 0x0001_0200, 0, 0x0040_0000, 0], (6, 3)),
+        ([0x0723_0203, 0x0001_0200, 0, 0, 0], (6, 3)),
+        ([0x0723_0203, 0x0001_0200, 0, 1, 1], (5, 4)),
+        ([0x0723_0203, 0x0001_0200, 0, 0, 1], (6, 3)),
+        ([0x0723_0203, 0, 0, 0, 1], (4, 1)),
+    ];
+    for (words, rule) in headers {
+        let ran = show(alloc, &little(alloc, &words)?)?;
+        assert_eq!(rt; refusal(&ran), rule, "{words:?}");
+    }
+    Ok(())
+}
+
+#[test]
+fn too_long_a_binary_is_told_first(rt: HostRuntime) -> Result<(), Fail> {
+    let alloc = rt.alloc();
+    let mut bytes = Vec::new(alloc);
+    for _ in 0..16_777_217 {
+        bytes.push(0)?;
+    }
+    assert_eq!(rt; refusal(&show(alloc, &bytes)?), (15, 4_194_304));
+    Ok(())
+}
+
+/// The refusal of instructions behind a header.
+fn refusal_of(alloc: Global, words: &[u32]) -> Result<(u16, u64), Fail> {
+    let mut module = Vec::from_slice(alloc, &HEADER)?;
+    module.extend_from_slice(words)?;
+    let ran = show(alloc, &little(alloc, &module)?)?;
+    Ok(refusal(&ran))
+}
+
+/// Instructions that can be read.
+static READ: [&[u32]; 21] = [
+    &[0x0003_0029, 1, 2],
+    &[0x0001_0000],
+    &[0x0002_0011, 4],
+    &[0x0004_0005, 1, 0x6362_6164, 0],
+    &[0x0003_0005, 1, 0x0000_A9C3],
+    &[0x0004_0015, 1, 64, 0, 0x0005_002B, 1, 2, 3, 0xFFFF_FFFF],
+    &[0x0004_0015, 1, 8, 0, 0x0004_002B, 1, 2, 0xFF],
+    &[0x0004_002B, 1, 2, 0xFFFF_FFFF],
+    &[0x0004_003B, 1, 2, 7],
+    &[0x0005_003B, 1, 2, 7, 3],
+    &[0x0004_003D, 1, 2, 3],
+    &[0x0006_003D, 1, 2, 3, 7, 4],
+    &[0x0003_0003, 3, 100_000],
+    &[0x0004_0003, 3, 100_000, 1],
+    &[0x0005_0003, 3, 100_000, 1, 0x61],
+    &[0x0004_00FA, 1, 2, 3, 0x0006_00FA, 1, 2, 3, 4, 5],
+    &[0x0003_00F5, 1, 2, 0x0007_00F5, 1, 2, 3, 4, 5, 6],
+    &[0x0003_00FB, 1, 2, 0x0007_00FB, 1, 2, 3, 4, 5, 6],
+    &[
+        0x0004_0015,
+        1,
+        64,
+        0,
+        0x0003_0037,
+        1,
+        2,
+        0x0006_00FB,
+        2,
+        3,
+        4,
+        5,
+        6,
+    ],
+    &[0x0005_0047, 1, 0x29, 0x61, 1],
+    &[0x0006_0010, 1, 17, 1, 1, 1],
+];
+
+#[test]
+fn instructions_of_every_form_are_read(rt: HostRuntime) -> Result<(), Fail> {
+    for words in READ.iter() {
+        assert_eq!(rt; refusal_of(rt.alloc(), words)?, (0, 0), "{words:?}");
+    }
+    Ok(())
+}
+
+/// Instructions that can't be read, and the rule and the word that tell why.
+static UNREAD: [(&[u32], (u16, u64)); 37] = [
+    (&[0x0000_0011], (7, 5)),
+    (&[0xFFFF_0011], (8, 5)),
+    (&[0x0001_0001], (9, 5)),
+    (&[0x0001_0003], (10, 5)),
+    (&[0x0000_0001], (7, 5)),
+    (&[0x0002_0001], (8, 5)),
+    (&[0x0001_0000, 0x0002_0000, 7], (10, 6)),
+    (&[0x0002_0029, 1], (10, 5)),
+    (&[0x0004_0029, 1, 2, 3], (10, 5)),
+    (&[0x0003_0015, 1, 32], (10, 5)),
+    (&[0x0005_0015, 1, 32, 0, 0], (10, 5)),
+    (&[0x0001_0011], (10, 5)),
+    (&[0x0002_0011, 3], (11, 5)),
+    (&[0x0003_0011, 4, 4], (10, 5)),
+    (&[0x0002_0005, 1], (10, 5)),
+    (&[0x0003_0005, 1, 0x6161_6161], (12, 5)),
+    (&[0x0003_0005, 1, 0x6100_6161], (12, 5)),
+    (&[0x0003_0005, 1, 0xFF], (12, 5)),
+    (&[0x0004_0005, 1, 0x61, 0], (10, 5)),
+    (&[0x0003_002B, 1, 2], (10, 5)),
+    (&[0x0005_002B, 1, 2, 3, 4], (10, 5)),
+    (&[0x0004_0015, 1, 8, 0, 0x0004_002B, 1, 2, 0x100], (13, 9)),
+    (
+        &[0x0004_0015, 1, 16, 0, 0x0004_002B, 1, 2, 0x1_0000],
+        (13, 9),
+    ),
+    (&[0x0004_0015, 1, 64, 0, 0x0004_002B, 1, 2, 3], (10, 9)),
+    (&[0x0006_003B, 1, 2, 7, 3, 4], (10, 5)),
+    (&[0x0004_003B, 1, 2, 2], (11, 5)),
+    (&[0x0005_003D, 1, 2, 3, 2], (10, 5)),
+    (&[0x0005_003D, 1, 2, 3, 8], (11, 5)),
+    (&[0x0006_003D, 1, 2, 3, 1, 4], (10, 5)),
+    (&[0x0005_0003, 3, 100_000, 1, 0x6161_6161], (12, 5)),
+    (&[0x0006_0003, 3, 100_000, 1, 0x61, 0], (10, 5)),
+    (&[0x0005_00FA, 1, 2, 3, 4], (10, 5)),
+    (&[0x0007_00FA, 1, 2, 3, 4, 5, 6], (10, 5)),
+    (&[0x0004_00F5, 1, 2, 3], (10, 5)),
+    (&[0x0004_00FB, 1, 2, 3], (10, 5)),
+    (&[0x0005_0047, 1, 0x29, 0x61, 2], (11, 5)),
+    (&[0x0005_0010, 1, 17, 1, 1], (10, 5)),
+];
+
+#[test]
+fn instructions_that_cannot_be_read_are_told_by_rule_and_word(rt: HostRuntime) -> Result<(), Fail> {
+    for (words, rule) in UNREAD.iter() {
+        assert_eq!(rt; refusal_of(rt.alloc(), words)?, *rule, "{words:?}");
+    }
+    Ok(())
+}
+
+/// What a binary of instructions at these places is refused by, where it is cut after so many bytes.
+fn refusal_of_cut(starts: &[usize], count: usize) -> (u16, u64) {
+    if count < 20 {
+        return if 0 < count && count < 4 {
+            (1, 0)
+        } else {
+            (2, 0)
+        };
+    }
+    let words = count / 4;
+    let mut start = 5;
+    for next in starts {
+        if *next <= words {
+            start = *next;
+        }
+    }
+    if start < words {
+        (8, start as u64)
+    } else if count % 4 != 0 {
+        (1, words as u64)
+    } else {
+        (0, 0)
+    }
+}
+
+#[test]
+fn a_cut_binary_is_told_where_it_is_cut(rt: HostRuntime) -> Result<(), Fail> {
+    let alloc = rt.alloc();
+    let bytes = little(alloc, &ADD_IN_PLACE)?;
+    for count in 0..bytes.len() {
+        let ran = show(alloc, &bytes[..count])?;
+        assert_eq!(rt;
+            refusal(&ran),
+            refusal_of_cut(&STARTS, count),
+            "{count} bytes"
+        );
+    }
     Ok(())
 }

@@ -21,14 +21,32 @@ fn translate_failing(alloc: Global, read: &[u64], write: &[u64]) -> Result<Ran, 
 
 #[test]
 fn other_words_are_answered_by_the_usage_line(rt: HostRuntime) -> Result<(), Fail> {
-    let lists: [&[&str]; 8] = [
+    let lists: [&[&str]; 10] = [
         &[],
         &["translate", "--from", "llvm"],
         &["translate", "--to", "spirv", "--from", "llvm"],
         &["translate", "--from", "spirv", "--to", "spirv"],
         &["translate", "--from", "llvm", "--to", "spirv", "--order"],
         &["show"],
-        &["show", "--from", "spirv"],
+        &[
+            "translate",
+            "--from",
+            "llvm",
+            "--to",
+            "spirv",
+            "--order",
+            "middle",
+        ],
+        &[
+            "translate",
+            "--from",
+            "llvm",
+            "--to",
+            "spirv",
+            "--endian",
+            "big",
+        ],
+        &["show", "--from", "elf"],
         &["--help"],
     ];
     for words in lists {
