@@ -1,4 +1,4 @@
-ghost use Rattle.std.specs.Prelude.{◌≡◌, IfOk, IsTrue, ◌≤◌, All};
+ghost use Rattle.std.specs.Prelude.{◌≡◌, IfOk, IsTrue, ◌≤◌, All, length, vec_len};
 ghost use Rattle.graph_walk.specs.Levels.{Rises, level_of};
 
 use ports::OutOfMemory;
@@ -10,7 +10,8 @@ use std::alloc::Global;
 ///
 /// `OutOfMemory` comes for want of memory alone.
 pub fn levels(alloc: Global, rows: &[Items<usize>]) -> Result<Vec<usize>, OutOfMemory>
-    ensures { IfOk result (λ levels. Rises rows.now levels.items) }
+    ensures len { IfOk result (λ levels. vec_len levels ≡ length rows.now) }
+    ensures rises { IfOk result (λ levels. Rises rows.now levels.items) }
 {
     let left = leaving_order(alloc, rows)?;
     let sources = turned(alloc, rows)?;
@@ -18,7 +19,16 @@ pub fn levels(alloc: Global, rows: &[Items<usize>]) -> Result<Vec<usize>, OutOfM
     if rises(rows, &levels) {
         return Ok(levels);
     }
-    Ok(Vec::new(alloc))
+    one_level(alloc, rows)
+}
+
+/// The same level for every node.
+fn one_level(alloc: Global, rows: &[Items<usize>]) -> Result<Vec<usize>, OutOfMemory>
+    ensures len { IfOk result (λ levels. vec_len levels ≡ length rows.now) }
+    ensures rises { IfOk result (λ levels. Rises rows.now levels.items) }
+{
+    let levels = vec![in alloc; 0; rows.len()]?;
+    Ok(levels)
 }
 
 /// The node's level, 0 where the list has none.
@@ -104,9 +114,11 @@ fn first_visit(seen: &mut [bool], node: usize) -> bool {
 }
 
 /// The graph with every edge turned round.
-fn turned(alloc: Global, rows: &[Items<usize>]) -> Result<Vec<Vec<usize>>, OutOfMemory> {
+fn turned(alloc: Global, rows: &[Items<usize>]) -> Result<Vec<Vec<usize>>, OutOfMemory>
+    ensures { IfOk result (λ sources. vec_len sources ≡ length rows.now) }
+{
     let mut sources = Vec::new(alloc);
-    for _ in 0..rows.len() {
+    while sources.len() < rows.len() {
         sources.push(Vec::new(alloc))?;
     }
     for (node, row) in rows.iter().enumerate() {
@@ -125,7 +137,9 @@ fn component_numbers(
     alloc: Global,
     sources: &[Vec<usize>],
     left: &[usize],
-) -> Result<Vec<usize>, OutOfMemory> {
+) -> Result<Vec<usize>, OutOfMemory>
+    ensures { IfOk result (λ numbers. vec_len numbers ≡ length sources.now) }
+{
     let mut seen = vec![in alloc; false; sources.len()]?;
     let mut numbers = vec![in alloc; 0; sources.len()]?;
     let mut stack = Vec::new(alloc);

@@ -3,6 +3,15 @@ pub mod BlockGraph
 pub mod CallsLemmas
 pub mod Collected
 pub mod FirstLemmas
+pub mod Injective
+pub mod ListLemmas
+pub mod Members
+pub mod OtherNames
+pub mod PlacesApart
 pub mod PlacesLemmas
 pub mod Rebuilt
+pub mod RenamedBodies
+pub mod RenamedCalls
+pub mod RenamedUses
+pub mod RenamedWalks
 pub mod UsesLemmas

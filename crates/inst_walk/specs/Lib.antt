@@ -1,7 +1,9 @@
 pub mod Body
 pub mod Calls
 pub mod First
+pub mod InstLaws
 pub mod Outline
 pub mod Places
+pub mod RenamedBody
 pub mod Renaming
 pub mod Uses

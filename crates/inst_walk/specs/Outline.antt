@@ -33,15 +33,16 @@ module _ {N : Type 0} where
   abbrev pub names_of : Outline N → List N
   names_of o = option_to_list o.defines ++ (values_of o.uses ++ (parents_of o.uses ++ (option_to_list o.calls ++ (o.leads_to ++ o.others))))
 
-  abbrev pub uses_renamed : (N → N) → Uses N → Uses N
-  uses_renamed f (Plain values) = Plain (map f values)
-  uses_renamed f (Phi entries) = Phi (map (λ e. (f e.0, f e.1)) entries)
+module _ {N M : Type 0} (f : N → M) where
+  abbrev pub uses_renamed : Uses N → Uses M
+  uses_renamed (Plain values) = Plain (map f values)
+  uses_renamed (Phi entries) = Phi (map (λ e. (f e.0, f e.1)) entries)
 
   -- every name replaced
-  abbrev pub outline_renamed : (N → N) → Outline N → Outline N
-  outline_renamed f o = record {
+  abbrev pub outline_renamed : Outline N → Outline M
+  outline_renamed o = record {
     defines = option_map f o.defines;
-    uses = uses_renamed f o.uses;
+    uses = uses_renamed o.uses;
     calls = option_map f o.calls;
     leads_to = map f o.leads_to;
     others = map f o.others;

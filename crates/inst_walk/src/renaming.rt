@@ -1,8 +1,9 @@
-ghost use Rattle.std.specs.Prelude.{◌≡◌, ℕ, [], Some, OnOk, OnErr, if◌then◌else◌};
+ghost use Rattle.std.specs.Prelude.{◌≡◌, ℕ, [], Some, OnOk, OnErr, if◌then◌else◌, map};
 ghost use Rattle.inst_walk.specs.Renaming.{new_name, renamed_name};
 
 use indexmap::IndexMap;
 use ports::OutOfMemory;
+use sqlite_items::Items;
 use std::alloc::Global;
 use std::hash::Hash;
 use std::marker::Model;
@@ -54,5 +55,15 @@ impl<N: Copy + Ord + Hash> Renaming<N> {
         ensures { result ≡ renamed_name N.eq self.now from }
     {
         self.get(from).unwrap_or(from)
+    }
+
+    /// Replaces each name of the list by its new one. A name that the map lacks stays.
+    pub fn rename_all(&self, names: &mut Items<N>)
+        ensures { names.new ≡ map (renamed_name N.eq self.now) names.old }
+    {
+        for i in 0..names.len() {
+            let name = names.as_slice()[i];
+            names.set(i, self.renamed(name));
+        }
     }
 }

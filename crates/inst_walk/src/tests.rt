@@ -1,4 +1,5 @@
-//! A small instruction set, and the walks over bodies of it.
+//! Two small instruction sets, and the walks over bodies of them.
 
+mod listed;
 mod toy;
 mod walks;

@@ -1,5 +1,6 @@
 ghost use Rattle.std.specs.Prelude.{◌<◌};
 
+use super::listed::Listed;
 use super::toy::Toy;
 use super::toy::Toy::{Add, Call, Fork, Jump, Phi, Return, Switch};
 use crate::body::{Block, Body};
@@ -198,14 +199,68 @@ fn renumbers_every_name(rt: HostRuntime) -> Result<(), Fail> {
     Ok(())
 }
 
+#[test]
+fn renumbers_lists_of_names(rt: HostRuntime) -> Result<(), Fail> {
+    let alloc = rt.alloc();
+    let mut map = Renaming::new(alloc);
+    for (from, to) in [(1, 31), (3, 33), (10, 20)] {
+        map.put(from, to)?;
+    }
+    let mut inst = Listed {
+        to: Some(3),
+        values: Items::from_slice(alloc, &[1, 2, 1])?,
+        labels: Items::from_slice(alloc, &[11, 10])?,
+    };
+    inst.rename(&map);
+    assert_eq!(rt; inst.result(), Some(33));
+    assert_eq!(rt; inst.values.as_slice(), [31, 2, 31].as_slice());
+    assert_eq!(rt; inst.labels.as_slice(), [11, 20].as_slice());
+    Ok(())
+}
+
+#[test]
+fn walks_after_renumbering(rt: HostRuntime) -> Result<(), Fail> {
+    let alloc = rt.alloc();
+    let mut map = Renaming::new(alloc);
+    for (from, to) in [(10, 12), (12, 11), (11, 10), (1, 7), (7, 1)] {
+        map.put(from, to)?;
+    }
+    let old = body(
+        alloc,
+        &[1, 2],
+        &[
+            (10, &[Fork(1, 12, 11)]),
+            (11, &[Add(7, 1, 1), Jump(12)]),
+            (12, &[Add(8, 7, 7), Return]),
+        ],
+    )?;
+    let new = renumber(alloc, old, &map)?;
+    let order = block_order(alloc, &new)?;
+    assert_eq!(rt; order.as_slice(), [0, 2, 1].as_slice());
+    assert_eq!(rt; first_use_above(alloc, &new, &order)?, Some((2, 0)));
+    Ok(())
+}
+
+/// A body of as many blocks, each of which leads to the next one.
+fn chain(alloc: Global, count: u32) -> Result<Body<Toy>, OutOfMemory> {
+    let mut blocks = Vec::new(alloc);
+    for name in 0..count {
+        blocks.push(block(alloc, name, &[Jump(name.wrapping_add(1))])?)?;
+    }
+    Ok(Body {
+        params: Items::new(alloc),
+        blocks: Items::from_vec(blocks),
+    })
+}
+
 /// A body of as many blocks, each of which may lead to two others.
-fn large_body(alloc: Global, count: u32, step: u32) -> Result<Body<Toy>, OutOfMemory>
+fn forks(alloc: Global, count: u32) -> Result<Body<Toy>, OutOfMemory>
     requires { 0 < count }
 {
     let mut blocks = Vec::new(alloc);
     for name in 0..count {
         let left = name.wrapping_add(1) % count;
-        let right = name.wrapping_mul(step) % count;
+        let right = name.wrapping_mul(2) % count;
         blocks.push(block(alloc, name, &[Fork(1, left, right)])?)?;
     }
     Ok(Body {
@@ -217,11 +272,9 @@ fn large_body(alloc: Global, count: u32, step: u32) -> Result<Body<Toy>, OutOfMe
 #[test]
 fn large_bodies(rt: HostRuntime) -> Result<(), Fail> {
     let alloc = rt.alloc();
-    for (count, step) in [(100_000u32, 1), (10_000, 2)] {
-        assert!(rt; count > 0);
-        let body = large_body(alloc, count, step)?;
+    for body in [chain(alloc, 100_000)?, forks(alloc, 10_000)?] {
         let order = block_order(alloc, &body)?;
-        assert_eq!(rt; order.len() as u64, u64::from(count));
+        assert_eq!(rt; order.len(), body.blocks.len());
         assert_eq!(rt; first_use_above(alloc, &body, &order)?, None);
     }
     Ok(())
