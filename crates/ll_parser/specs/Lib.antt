@@ -1,0 +1,9 @@
+pub mod Examples
+pub mod GrammarAttributes
+pub mod GrammarFunctions
+pub mod GrammarInsts
+pub mod GrammarItems
+pub mod GrammarTypes
+pub mod GrammarValues
+pub mod Productions
+pub mod Spellings

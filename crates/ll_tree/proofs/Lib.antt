@@ -1,0 +1,6 @@
+mod Answered
+mod Seqs
+mod Spelled
+mod Targets
+mod UsesRenamed
+mod ValueShapes

@@ -1,0 +1,15 @@
+pub mod Example
+pub mod formers
+pub mod InstLaws
+pub mod Insts
+pub mod Laws
+pub mod Lends
+pub mod Modules
+pub mod Names
+pub mod OpLaws
+pub mod Ops
+pub mod Pairs
+pub mod Spellings
+pub mod Types
+pub mod ValueLaws
+pub mod Values
