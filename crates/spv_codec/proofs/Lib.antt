@@ -4,3 +4,5 @@ pub mod InstLemmas
 pub mod FramingLemmas
 pub mod StreamLaws
 pub mod FramingLaws
+pub mod ReadGroups
+pub mod ReadRuns

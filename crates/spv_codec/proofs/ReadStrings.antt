@@ -50,7 +50,7 @@ begins_string-BeginsString words text used string =
     ((bytes_eq-Decides (words_bytes Little (take (string_len words) words)) (terminated (string_text words))).1
     (ap (λ k. words_bytes Little (take k words)) len ∙ (string.spelled ∙ ap terminated (sym same))))
 
-BeginsString-begins_string : (words : List ℕ) → begins_string words ≡ true → BeginsString words (string_text words) (string_len words)
+pub BeginsString-begins_string : (words : List ℕ) → begins_string words ≡ true → BeginsString words (string_text words) (string_len words)
 BeginsString-begins_string words begins =
     let bytes = words_bytes Little words in
     let parts = and_parts _ _ begins in

@@ -1,9 +1,13 @@
 -- What follows of the definitions of framing.
-use Rattle.std.specs.Prelude.{◌≡◌, List, ℕ}
+use Rattle.std.specs.Prelude.{◌≡◌, ◌↔◌, List, [], ℕ, Option, Ok}
 use Rattle.ports.specs.declared.faults.SpvFault.{SpvFault}
 use Rattle.spv_words.specs.declared.words.Order.{Order}
 use Rattle.spv_words.specs.Words.{words_bytes}
+use Rattle.spv_layout.specs.declared.opcode.Opcode.{Opcode}
+use Rattle.spv_layout.specs.Forms.{operands_of}
 use Rattle.spv_codec.specs.declared.module.RawModule.{RawModule}
+use Rattle.spv_codec.specs.Operands.{read_operands}
+use Rattle.spv_codec.specs.Groups.{AreGroups}
 use Rattle.spv_codec.specs.Framing.{IsSpirv, IsRight, IsFramingFault, module_words}
 
 -- bytes spell one module at most
@@ -23,3 +27,9 @@ abbrev pub SpellsItself : Type 0
 SpellsItself =
     (raw : RawModule) (order : Order) → IsRight raw
     → IsSpirv (words_bytes order (module_words raw)) (record raw { order = order })
+
+-- operands of a form can be read exactly where their words are one group for each
+abbrev pub OperandsAreGroups : Type 0
+OperandsAreGroups =
+    (opcode : Opcode) (width : Option ℕ) (words : List ℕ)
+    → (read_operands width (operands_of opcode) words ≡ Ok []) ↔ AreGroups width (operands_of opcode) words

@@ -1,5 +1,6 @@
 pub mod Decoding
 pub mod Framing
+pub mod Groups
 pub mod Ids
 pub mod Instructions
 pub mod Laws

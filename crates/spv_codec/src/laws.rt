@@ -1,6 +1,8 @@
 //! What holds of all bytes and modules: the contracts of these functions, which do nothing.
 
-ghost use Rattle.spv_codec.specs.Laws.{OneModule, ModuleOrFault, OneFault, SpellsItself};
+ghost use Rattle.spv_codec.specs.Laws.{OneModule, ModuleOrFault, OneFault, SpellsItself, OperandsAreGroups};
+
+use spv_layout::runs_stand_last;
 
 /// Bytes spell one module at most.
 pub fn one_module()
@@ -21,3 +23,10 @@ pub fn one_fault()
 pub fn spells_itself()
     ensures { SpellsItself }
 {}
+
+/// The operands of a form can be read exactly where their words are one group for each operand.
+pub fn operands_are_groups()
+    ensures { OperandsAreGroups }
+{
+    runs_stand_last();
+}

@@ -13,5 +13,5 @@ mod operands;
 
 pub use decoder::SpvDecoder;
 pub use encoder::encode;
-pub use laws::{module_or_fault, one_fault, one_module, spells_itself};
+pub use laws::{module_or_fault, one_fault, one_module, operands_are_groups, spells_itself};
 pub use module::{RawInst, RawModule};
