@@ -4,9 +4,8 @@ use Rattle.std.specs.Io.KnownBytes.{IsAtEnd}
 use Rattle.ports.specs.Causes.{Rose}
 use Rattle.ports.specs.Streams.{Gives, GivesSome, GivesCount, Takes, TakesPrefix}
 use Rattle.spv_words.specs.declared.words.Order.{Order}
-use Rattle.spv_words.specs.Words.{words_bytes}
 use Rattle.spv_codec.specs.declared.module.RawModule.{RawModule}
-use Rattle.spv_codec.specs.Framing.{module_words, IsFramingFault}
+use Rattle.spv_codec.specs.Framing.{IsSpirv, IsFramingFault}
 use Rattle.kt_driver.specs.BinaryListings.{IsBinaryListing}
 use Rattle.kt_driver.specs.Listings.{IsListing, IsListingFault}
 use Rattle.kt_driver.specs.Requests.{input_format}
@@ -26,10 +25,11 @@ use Rattle.kt_driver.specs.declared.request.Request.TheVariants.{Translate, Show
 abbrev pub usage_line : List ℕ
 usage_line = codes "usage: spirv_tool translate|check|show|replay|sample [options]" ++ 10 ∷ []
 
--- the bytes are those of a module's words in this order
+-- the bytes spell a module in this order
 pub record IsBinary (order : Order) (bytes : List ℕ) : Type 0 where
   pub raw : RawModule
-  pub spelled : bytes ≡ words_bytes order (module_words raw)
+  pub ordered : raw.order ≡ order
+  pub spirv : IsSpirv bytes raw
 
 -- the bytes list the parts of an input of this format
 abbrev pub IsListed : Format → List ℕ → List ℕ → Type 0

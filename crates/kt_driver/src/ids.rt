@@ -1,4 +1,4 @@
-ghost use Rattle.std.specs.Prelude.{◌≤◌, ◌<◌};
+ghost use Rattle.std.specs.Prelude.{◌≤◌, ◌<◌, IfOk};
 
 use crate::kernel::ValueType;
 use crate::layout::{Layout, MAX_BOUND, Value};
@@ -22,7 +22,10 @@ pub struct Ids {
 
 impl Ids {
     /// The ids of a kernel's module. A module that needs a greater bound than a module may have is outside the covered subset.
-    pub fn of(layout: &Layout<'_>) -> Result<Ids, TranslateError> {
+    pub fn of(layout: &Layout<'_>) -> Result<Ids, TranslateError>
+        ensures some { IfOk result (λ ids. 0 < ids.bound) }
+        ensures most { IfOk result (λ ids. ids.bound ≤ 0x3FFFFF) }
+    {
         let parameters = layout.parameters.len();
         let has_pointer = layout.parameters.contains(&ValueType::Pointer);
         let types = 2 + u32::from(parameters > 0) + u32::from(has_pointer);
