@@ -1,0 +1,4 @@
+mod MergeLemmas
+mod PairLemmas
+mod RenamedLemmas
+mod ZipLemmas

@@ -1,0 +1,12 @@
+pub mod Example
+pub mod InstLaws
+pub mod FirstKernel
+pub mod Insts
+pub mod Laws
+pub mod Modules
+pub mod NamedTypes
+pub mod Roles
+pub mod Sections
+pub mod Spelled
+pub mod Texts
+pub mod Woven
