@@ -5,5 +5,9 @@ pub mod GrammarInsts
 pub mod GrammarItems
 pub mod GrammarTypes
 pub mod GrammarValues
+pub mod Pointers
 pub mod Productions
+pub mod Reading
+pub mod Spaces
 pub mod Spellings
+pub mod WordTypes
