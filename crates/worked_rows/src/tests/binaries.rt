@@ -1,5 +1,8 @@
+ghost use Rattle.std.specs.Prelude.{◌≡◌, IfOk};
+
 use super::{Ran, little, run_words};
 use kt_driver::Status;
+use ports::SpvError;
 use spv_codec::{SpvDecoder, encode};
 use spv_words::Order;
 use std::alloc::Global;
@@ -199,15 +202,22 @@ fn big_bytes(alloc: Global, words: &[u32]) -> Result<Vec<u8>, Fail> {
     Ok(bytes)
 }
 
+/// A decoder that is fed the bytes one at a time.
+fn fed_singly(alloc: Global, bytes: &[u8]) -> Result<SpvDecoder, SpvError>
+    ensures { IfOk result (λ decoder. decoder.fed ≡ bytes.now) }
+{
+    let mut decoder = SpvDecoder::new(alloc);
+    for byte in bytes {
+        decoder.feed(&[*byte])?;
+    }
+    Ok(decoder)
+}
+
 #[test]
 fn bytes_can_come_one_at_a_time(rt: HostRuntime) -> Result<(), Fail> {
     let alloc = rt.alloc();
     let bytes = big_bytes(alloc, &EMPTY_KERNEL)?;
-    let mut decoder = SpvDecoder::new(alloc);
-    for byte in &bytes {
-        decoder.feed(&[*byte])?;
-    }
-    let raw = decoder.finish()?;
+    let raw = fed_singly(alloc, &bytes)?.finish()?;
     assert_eq!(rt; raw.order, Order::Big);
     assert_eq!(rt; raw.insts.len(), 10);
     let little_bytes = encode(alloc, &raw, Order::Little)?;
@@ -218,14 +228,19 @@ fn bytes_can_come_one_at_a_time(rt: HostRuntime) -> Result<(), Fail> {
     Ok(())
 }
 
+/// The first bytes, as many as there are of this many.
+fn front(bytes: &[u8], len: usize) -> &[u8] {
+    &bytes[..len.min(bytes.len())]
+}
+
 #[test]
 fn a_binary_is_refused_by_the_first_rule_that_it_breaks(rt: HostRuntime) -> Result<(), Fail> {
     let alloc = rt.alloc();
     let whole = little(alloc, &EMPTY_KERNEL)?;
     assert_eq!(rt; refusal(&show(alloc, &[])?), (2, 0));
-    assert_eq!(rt; refusal(&show(alloc, &whole[..3])?), (1, 0));
-    assert_eq!(rt; refusal(&show(alloc, &whole[..19])?), (2, 0));
-    assert_eq!(rt; refusal(&show(alloc, &whole[..119])?), (1, 29));
+    assert_eq!(rt; refusal(&show(alloc, front(&whole, 3))?), (1, 0));
+    assert_eq!(rt; refusal(&show(alloc, front(&whole, 19))?), (2, 0));
+    assert_eq!(rt; refusal(&show(alloc, front(&whole, 119))?), (1, 29));
     // Each word of the header, and then two at once.
     let headers: [([u32; 5], (u16, u64)); 9] = [
         ([0x0723_0204, 0x0001_0200, 0, 1, 0], (3, 0)),
