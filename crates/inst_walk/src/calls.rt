@@ -9,7 +9,7 @@ ghost use Rattle.inst_walk.specs.Places.{place_of, places_of};
 
 use crate::body::Body;
 use crate::inst_set::InstSet;
-use crate::places::Places;
+use crate::name_places::Places;
 use graph_walk::{level_at, levels, reaches};
 use ports::OutOfMemory;
 use sqlite_items::Items;

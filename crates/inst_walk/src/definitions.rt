@@ -4,7 +4,7 @@ ghost use Rattle.inst_walk.specs.Uses.{results_of, defined_names, reached_names,
 
 use crate::body::Body;
 use crate::inst_set::InstSet;
-use crate::places::Places;
+use crate::name_places::Places;
 use ports::OutOfMemory;
 use std::alloc::Global;
 use std::hash::Hash;

@@ -4,7 +4,7 @@ ghost use Rattle.inst_walk.specs.Places.{places_of};
 
 use crate::body::{Block, Body};
 use crate::inst_set::InstSet;
-use crate::places::Places;
+use crate::name_places::Places;
 use graph_walk::preorder;
 use ports::OutOfMemory;
 use sqlite_items::Items;

@@ -8,7 +8,7 @@ mod definitions;
 mod flow;
 mod inst_set;
 mod laws;
-mod places;
+mod name_places;
 mod renamed;
 mod renaming;
 mod uses;
@@ -22,6 +22,7 @@ pub use laws::{
     first_call_of_renamed, first_use_of_renamed, names_of_renamed, order_of_renamed,
     outline_of_renamed, places_are_apart, walks_of_renumbered, walks_without_others,
 };
+pub use name_places::Places;
 pub use renamed::renumber;
 pub use renaming::Renaming;
 pub use uses::first_use_above;

@@ -2,7 +2,7 @@ use Rattle.std.proofs.Common.{◌≡◌, ◌≤◌, length, drop}
 use Rattle.indexmap.specs.IndexMap.{get}
 use Rattle.inst_walk.specs.Places.{place_of}
 use Rattle.inst_walk.proofs.PlacesLemmas.{shifted}
-use Rattle.inst_walk.proofs.places.Places.new.Given as goal
+use Rattle.inst_walk.proofs.name_places.Places.new.Given as goal
 
 abbrev pub invariant-loop-at : goal.invariant-loop-at
 invariant-loop-at g l = record {

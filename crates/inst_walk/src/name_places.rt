@@ -7,9 +7,9 @@ use std::alloc::Global;
 use std::hash::Hash;
 use std::marker::Model;
 
-/// A list of names that tells where a name stands in it.
+/// A list of names that tells where a name stands in it. Contracts see the list.
 #[derive(Drop)]
-pub(crate) struct Places<N: Copy + Ord + Hash> {
+pub struct Places<N: Copy + Ord + Hash> {
     names: Vec<N>,
     table: IndexMap<N, usize>,
 }
@@ -27,7 +27,10 @@ impl<N: Copy + Ord + Hash> Model for Places<N> {
 }
 
 impl<N: Copy + Ord + Hash> Places<N> {
-    pub(crate) fn new(alloc: Global, names: Vec<N>) -> Result<Places<N>, OutOfMemory>
+    /// The list with a table of its names.
+    ///
+    /// `OutOfMemory` comes for want of memory alone.
+    pub fn new(alloc: Global, names: Vec<N>) -> Result<Places<N>, OutOfMemory>
         ensures { IfOk result (λ places. places ≡ names.items) }
     {
         let mut table = IndexMap::new(alloc);
@@ -39,28 +42,29 @@ impl<N: Copy + Ord + Hash> Places<N> {
         Ok(Places { names, table })
     }
 
-    /// The first place at which the name stands.
-    pub(crate) fn place(&self, name: N) -> Option<usize>
+    /// The first place at which the name stands, counted from 0. None exactly where the list lacks it.
+    pub fn place(&self, name: N) -> Option<usize>
         ensures { result ≡ place_of N.eq self.now name }
     {
         self.table.get(&name).copied()
     }
 
     /// How many names there are.
-    pub(crate) fn len(&self) -> usize
+    pub fn len(&self) -> usize
         ensures { result ≡ length self.now }
     {
         self.names.len()
     }
 
-    pub(crate) fn has(&self, name: N) -> bool
+    /// Whether the name stands in the list.
+    pub fn has(&self, name: N) -> bool
         ensures { result ≡ is_among N.eq self.now name }
     {
         self.place(name).is_some()
     }
 
     /// Whether the name stands among the first `limit` names.
-    pub(crate) fn has_above(&self, limit: usize, name: N) -> bool
+    pub fn has_above(&self, limit: usize, name: N) -> bool
         ensures { result ≡ is_among N.eq (take limit self.now) name }
     {
         match self.place(name) {

@@ -1,6 +1,6 @@
 use Rattle.std.proofs.Common.{sym, ◌∙◌, ap}
 use Rattle.inst_walk.proofs.PlacesLemmas.{is_among-take, below}
-use Rattle.inst_walk.proofs.places.Places.has_above.Goals as goal
+use Rattle.inst_walk.proofs.name_places.Places.has_above.Goals as goal
 
 pub returns-in-None : goal.returns-in-None
 returns-in-None g c =
