@@ -1,3 +1,6 @@
+pub mod Canonical
+pub mod Covered
 pub mod Modules
 pub mod Names
 pub mod Numbered
+pub mod Text

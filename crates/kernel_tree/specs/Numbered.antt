@@ -6,7 +6,9 @@ use Rattle.ll_tree.specs.declared.name.NameText.{NameText}
 use Rattle.ll_tree.specs.declared.name.Spelling.{Spelling}
 use Rattle.ll_tree.specs.declared.name.Spelling.TheVariants.{Number, Text}
 use Rattle.kernel_tree.specs.declared.kernel.Kernel.{Kernel}
-use Rattle.kernel_tree.specs.Names.{Definition, Use, definitions, uses}
+use Rattle.kernel_tree.specs.declared.names.Definition.{Definition}
+use Rattle.kernel_tree.specs.declared.names.Use.{Use}
+use Rattle.kernel_tree.specs.Names.{definitions, uses}
 
 abbrev pub bytes_of_spelling : Spelling → List ℕ
 bytes_of_spelling (Number number) = []

@@ -3,5 +3,7 @@
 #![tactic(auto)]
 
 mod kernel;
+mod names;
 
 pub use kernel::{Kernel, KernelInst, KernelParam, ValueType};
+pub use names::{Definition, Use};

@@ -1,0 +1,3 @@
+mod CanonicalMade
+mod NumberedAgain
+mod NumberedForms
