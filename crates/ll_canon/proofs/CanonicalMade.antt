@@ -27,7 +27,7 @@ form_by kernel numbers count =
     kernel_of (map (param_numbered numbers) kernel.params) (numbered_name numbers kernel.block)
     (map (inst_numbered numbers) (map inst_aligned kernel.insts)) (names_with kernel count)
 
-form-is : (kernel : Kernel) → canonical kernel ≡ form_by kernel (numbers_defined kernel) (length (definitions kernel))
+pub form-is : (kernel : Kernel) → canonical kernel ≡ form_by kernel (numbers_defined kernel) (length (definitions kernel))
 form-is kernel = ap (λ (ds : List Definition). form_by kernel (map number_defined ds) (length ds)) (definitions-aligned kernel)
 
 pub parts-are : (params params' : List KernelParam) (block block' : Name) (insts insts' : List KernelInst) (names names' : List NameText)

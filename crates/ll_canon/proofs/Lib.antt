@@ -1,3 +1,4 @@
 mod CanonicalMade
 mod NumberedAgain
 mod NumberedForms
+mod SameForms

@@ -1,4 +1,4 @@
-ghost use Rattle.ll_canon.specs.Laws.{CanonicalIsNumbered, CanonicalIsItsOwn};
+ghost use Rattle.ll_canon.specs.Laws.{CanonicalIsItsOwn, CanonicalIsNumbered, SameKernelsAreOne};
 
 /// In the canonical form of a kernel of the covered subset the names are numbered in the order of their definitions.
 pub fn canonical_is_numbered()
@@ -8,4 +8,9 @@ pub fn canonical_is_numbered()
 /// The canonical form of a canonical form is that form.
 pub fn canonical_is_its_own()
     ensures { CanonicalIsItsOwn }
+{}
+
+/// Kernels that differ in the numbers of their names alone have one canonical form, or none for the same reason.
+pub fn same_kernels_are_one()
+    ensures { SameKernelsAreOne }
 {}

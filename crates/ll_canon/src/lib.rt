@@ -11,4 +11,4 @@ mod undefined;
 mod uses;
 
 pub use canonical_form::{CanonError, canon};
-pub use laws::{canonical_is_its_own, canonical_is_numbered};
+pub use laws::{canonical_is_its_own, canonical_is_numbered, same_kernels_are_one};
