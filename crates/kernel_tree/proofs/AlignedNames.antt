@@ -6,7 +6,7 @@ use Rattle.kernel_tree.specs.declared.kernel.KernelInst.TheVariants.{Add, Load, 
 use Rattle.kernel_tree.specs.declared.names.Definition.{Definition}
 use Rattle.kernel_tree.specs.declared.names.Use.{Use}
 use Rattle.kernel_tree.specs.Canonical.{aligned, inst_aligned, with_targets}
-use Rattle.kernel_tree.specs.Names.{block_definition, defined_by, definitions, param_definition, used_by}
+use Rattle.kernel_tree.specs.Names.{defined_above, defined_by, definitions, used_by}
 
 pub defined_by-aligned : (insts : List KernelInst) → flat_map defined_by (map inst_aligned insts) ≡ flat_map defined_by insts
 defined_by-aligned [] = refl
@@ -16,7 +16,7 @@ defined_by-aligned (Store value pointer is_aligned ∷ insts) = defined_by-align
 
 pub definitions-aligned : (kernel : Kernel) → definitions (aligned (with_targets kernel)) ≡ definitions kernel
 definitions-aligned kernel =
-    ap (λ (ds : List Definition). map param_definition kernel.params ++ (block_definition kernel.block ∷ ds)) (defined_by-aligned kernel.insts)
+    ap (λ (ds : List Definition). defined_above kernel ++ ds) (defined_by-aligned kernel.insts)
 
 pub used_by-aligned : (insts : List KernelInst) → flat_map used_by (map inst_aligned insts) ≡ flat_map used_by insts
 used_by-aligned [] = refl

@@ -35,9 +35,13 @@ param_definition param = record { name = param.name; value_type = Some param.val
 abbrev pub block_definition : Name → Definition
 block_definition name = record { name = name; value_type = None }
 
+-- the parameters and the block
+abbrev pub defined_above : Kernel → List Definition
+defined_above kernel = map param_definition kernel.params ++ block_definition kernel.block ∷ []
+
 -- the parameters, the block, and the values of the instructions
 abbrev pub definitions : Kernel → List Definition
-definitions kernel = map param_definition kernel.params ++ (block_definition kernel.block ∷ flat_map defined_by kernel.insts)
+definitions kernel = defined_above kernel ++ flat_map defined_by kernel.insts
 
 abbrev pub uses : Kernel → List Use
 uses kernel = flat_map used_by kernel.insts

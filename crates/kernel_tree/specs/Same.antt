@@ -1,5 +1,5 @@
 -- When two kernels are the same but for the numbers that their tables give to names (LLVM 14, Identifiers).
-use Rattle.std.specs.Prelude.{◌≡◌, ℕ, Bool, List, [], ◌∷◌, Option, Some, slice_get}
+use Rattle.std.specs.Prelude.{◌≡◌, ℕ, List, [], ◌∷◌, Some, slice_get}
 use Rattle.ll_tree.specs.declared.name.Name.{Name}
 use Rattle.ll_tree.specs.declared.name.NameText.{NameText}
 use Rattle.kernel_tree.specs.declared.kernel.Kernel.{Kernel}

@@ -14,7 +14,7 @@ use Rattle.kernel_tree.specs.declared.names.Definition.{Definition}
 use Rattle.kernel_tree.specs.declared.names.Use.{Use}
 use Rattle.kernel_tree.specs.Canonical.{aligned, canonical, inst_numbered, numbered, numbered_name, numbers_defined, param_numbered, with_targets}
 use Rattle.kernel_tree.specs.Covered.{all_first, are_distinct, is_at, is_covered}
-use Rattle.kernel_tree.specs.Names.{block_definition, defined_by, definitions, param_definition, used_by, uses}
+use Rattle.kernel_tree.specs.Names.{block_definition, defined_above, defined_by, definitions, param_definition, used_by, uses}
 use Rattle.kernel_tree.specs.Numbered.{IsNumbered, definition_count, number_defined, number_used}
 use Rattle.kernel_tree.proofs.AlignedNames.{definitions-aligned}
 
@@ -72,8 +72,9 @@ module _ (numbers : List ℕ) where
 pub definitions-numbered : (kernel : Kernel) → definitions (numbered kernel) ≡ map (definition_numbered (numbers_defined kernel)) (definitions kernel)
 definitions-numbered kernel =
     let ns = numbers_defined kernel in
-    ap₂ (λ (ps : List Definition) (rs : List Definition). ps ++ (block_definition (numbered_name ns kernel.block) ∷ rs)) (params-numbered ns kernel.params) (results-numbered ns kernel.insts)
-    ∙ sym (map-append (definition_numbered ns) (map param_definition kernel.params) (block_definition kernel.block ∷ flat_map defined_by kernel.insts))
+    ap₂ (λ (ps : List Definition) (rs : List Definition). (ps ++ (block_definition (numbered_name ns kernel.block) ∷ [])) ++ rs) (params-numbered ns kernel.params) (results-numbered ns kernel.insts)
+    ∙ sym (map-append (definition_numbered ns) (defined_above kernel) (flat_map defined_by kernel.insts)
+    ∙ ap (λ (ds : List Definition). ds ++ map (definition_numbered ns) (flat_map defined_by kernel.insts)) (map-append (definition_numbered ns) (map param_definition kernel.params) (block_definition kernel.block ∷ [])))
 
 map-then : (numbers : List ℕ) (ds : List Definition) → map number_defined (map (definition_numbered numbers) ds) ≡ map (number_by numbers) (map number_defined ds)
 map-then numbers [] = refl
@@ -104,7 +105,7 @@ uses-below numbers (u ∷ us) some =
 pub some-defined : (kernel : Kernel) → 0 < definition_count kernel
 some-defined kernel = longer (map param_definition kernel.params) (block_definition kernel.block) (flat_map defined_by kernel.insts)
   where
-    longer : (before : List Definition) (d : Definition) (behind : List Definition) → 0 < length (before ++ (d ∷ behind))
+    longer : (before : List Definition) (d : Definition) (behind : List Definition) → 0 < length ((before ++ (d ∷ [])) ++ behind)
     longer [] d behind = omega arith
     longer (b ∷ before) d behind = omega arith
 

@@ -16,7 +16,7 @@ use Rattle.kernel_tree.specs.declared.names.Definition.{Definition}
 use Rattle.kernel_tree.specs.declared.names.Use.{Use}
 use Rattle.kernel_tree.specs.Canonical.{canonical, inst_aligned, inst_numbered, number_entry, numbered_name, param_numbered}
 use Rattle.kernel_tree.specs.Covered.{all_first, first_undefined, has_type, in_sequence, is_at, is_covered, is_found, is_next, is_type, is_undefined, next_behind, number_of_entry, use_fits, used_byte, uses_fit}
-use Rattle.kernel_tree.specs.Names.{defined_by, definitions, param_definition, used_by, uses}
+use Rattle.kernel_tree.specs.Names.{block_definition, defined_above, defined_by, definitions, param_definition, used_by, uses}
 use Rattle.kernel_tree.specs.Numbered.{number_defined}
 use Rattle.kernel_tree.specs.Same.{HasOnce, IsSameInst, IsSameKernel, IsSameName, IsSameParam, Pairwise}
 use Rattle.ll_canon.proofs.CanonicalMade.{form-is, parts-are}
@@ -238,8 +238,10 @@ module _ (k l : Kernel) (once1 : HasOnce k.names) (once2 : HasOnce l.names) (sam
 
   definitions-same : Pairwise Same (definitions k) (definitions l)
   definitions-same =
-      Pairwise-append Same (map param_definition k.params) (map param_definition l.params) _ _ (params-same k.names l.names once1 once2 k.params l.params same.params)
-      ((same.block, refl), results-same k.names l.names once1 once2 k.insts l.insts same.insts)
+      Pairwise-append Same (defined_above k) (defined_above l) (flat_map defined_by k.insts) (flat_map defined_by l.insts)
+      (Pairwise-append Same (map param_definition k.params) (map param_definition l.params) (block_definition k.block ∷ []) (block_definition l.block ∷ [])
+      (params-same k.names l.names once1 once2 k.params l.params same.params) ((same.block, refl), tt))
+      (results-same k.names l.names once1 once2 k.insts l.insts same.insts)
 
   params-count : length k.params ≡ length l.params
   params-count = Pairwise-length (IsSameParam k.names l.names) k.params l.params same.params
