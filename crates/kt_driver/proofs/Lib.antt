@@ -1,2 +1,3 @@
-pub mod Completeness
-pub mod WriterLemmas
+pub mod Binaries
+mod Completeness
+mod Sources

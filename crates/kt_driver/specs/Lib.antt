@@ -4,4 +4,4 @@ pub mod Refusals
 pub mod Requests
 pub mod Runs
 pub mod Statuses
-pub mod Writing
+pub mod Translations

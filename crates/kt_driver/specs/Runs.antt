@@ -4,10 +4,10 @@ use Rattle.std.specs.Io.KnownBytes.{IsAtEnd}
 use Rattle.ports.specs.Causes.{Rose}
 use Rattle.ports.specs.Streams.{Gives, GivesSome, GivesCount, Takes, TakesPrefix}
 use Rattle.spv_words.specs.declared.words.Order.{Order}
-use Rattle.spv_codec.specs.declared.module.RawModule.{RawModule}
-use Rattle.spv_codec.specs.Framing.{IsSpirv, IsFramingFault}
+use Rattle.spv_codec.specs.Framing.{IsFramingFault}
 use Rattle.kt_driver.specs.BinaryListings.{IsBinaryListing}
 use Rattle.kt_driver.specs.Listings.{IsListing, IsListingFault}
+use Rattle.kt_driver.specs.Translations.{IsOutside, IsTranslation, IsUndefinedIn}
 use Rattle.kt_driver.specs.Requests.{input_format}
 use Rattle.kt_driver.specs.Refusals.{refusal_line}
 use Rattle.kt_driver.specs.declared.refusals.Refusal.{Refusal}
@@ -25,12 +25,6 @@ use Rattle.kt_driver.specs.declared.request.Request.TheVariants.{Translate, Show
 abbrev pub usage_line : List ℕ
 usage_line = codes "usage: spirv_tool translate|check|show|replay|sample [options]" ++ 10 ∷ []
 
--- the bytes spell a module in this order
-pub record IsBinary (order : Order) (bytes : List ℕ) : Type 0 where
-  pub raw : RawModule
-  pub ordered : raw.order ≡ order
-  pub spirv : IsSpirv bytes raw
-
 -- the bytes list the parts of an input of this format
 abbrev pub IsListed : Format → List ℕ → List ℕ → Type 0
 IsListed Llvm input bytes = IsListing input bytes
@@ -38,16 +32,16 @@ IsListed Spirv input bytes = IsBinaryListing input bytes
 
 -- the bytes that answer a request on an input
 abbrev pub IsAnswer : Request → List ℕ → List ℕ → Type 0
-IsAnswer (Translate from to order) input bytes = IsBinary order bytes
+IsAnswer (Translate from to order) input bytes = IsTranslation order input bytes
 IsAnswer (Show from) input bytes = IsListed from input bytes
 
--- the refusals that a translation may meet in a text that is not too long
-abbrev pub IsUntranslated : Refusal → Type 0
-IsUntranslated (TooLong format) = ⊥
-IsUntranslated (UndefinedName byte) = Unit {0}
-IsUntranslated Outside = Unit {0}
-IsUntranslated (Unreadable fault) = ⊥
-IsUntranslated (Misframed fault) = ⊥
+-- the refusals that a translation into this order may meet in a text that is not too long
+abbrev pub IsUntranslatable : Order → List ℕ → Refusal → Type 0
+IsUntranslatable order input (TooLong format) = ⊥
+IsUntranslatable order input (UndefinedName byte) = IsUndefinedIn input byte
+IsUntranslatable order input Outside = IsOutside order input
+IsUntranslatable order input (Unreadable fault) = ⊥
+IsUntranslatable order input (Misframed fault) = ⊥
 
 -- the refusals that a listing may meet in an input of this format that is not too long
 abbrev pub IsUnlisted : Format → List ℕ → Refusal → Type 0
@@ -61,7 +55,7 @@ IsUnlisted Spirv input (Misframed fault) = IsFramingFault input fault
 
 -- the refusals that a request may meet in an input that is not too long
 abbrev pub IsDue : Request → List ℕ → Refusal → Type 0
-IsDue (Translate from to order) input refusal = IsUntranslated refusal
+IsDue (Translate from to order) input refusal = IsUntranslatable order input refusal
 IsDue (Show from) input refusal = IsUnlisted from input refusal
 
 -- the source was read to its end, and gave this input, of no more bytes than an input may have

@@ -118,18 +118,33 @@ impl fmt::Display for TranslateError {
 impl Error for TranslateError {}
 
 impl From<OutOfMemory> for TranslateError {
+    ghost use Rattle.std.specs.Prelude.{◌≡◌};
+    ghost use Rattle.kt_driver.specs.declared.refusals.TranslateError.TheVariants.{NoMemory};
+
+    ghost from_gives = { λ _ told. told ≡ NoMemory };
+
     fn from(_refused: OutOfMemory) -> TranslateError {
         TranslateError::NoMemory
     }
 }
 
 impl From<AllocError> for TranslateError {
+    ghost use Rattle.std.specs.Prelude.{◌≡◌};
+    ghost use Rattle.kt_driver.specs.declared.refusals.TranslateError.TheVariants.{NoMemory};
+
+    ghost from_gives = { λ _ told. told ≡ NoMemory };
+
     fn from(_refused: AllocError) -> TranslateError {
         TranslateError::NoMemory
     }
 }
 
 impl<T: Drop> From<AllocFailed<T>> for TranslateError {
+    ghost use Rattle.std.specs.Prelude.{◌≡◌};
+    ghost use Rattle.kt_driver.specs.declared.refusals.TranslateError.TheVariants.{NoMemory};
+
+    ghost from_gives = { λ _ told. told ≡ NoMemory };
+
     fn from(_refused: AllocFailed<T>) -> TranslateError {
         TranslateError::NoMemory
     }

@@ -1,14 +1,13 @@
-ghost use Rattle.std.specs.Prelude.{IfOk};
-ghost use Rattle.kt_driver.specs.Runs.{IsBinary};
+ghost use Rattle.std.specs.Prelude.{◌≡◌, IfOk, MatchOption, MatchResult};
+ghost use Rattle.kernel_tree.specs.Numbered.{IsNumbered};
+ghost use Rattle.kt_driver.specs.Translations.{IsTranslation, IsUntranslated, KeepsLimits, binary_of};
 
-use crate::canonical_text::text_len;
-use crate::layout::lay_out;
-use crate::reader::read_kernel;
+use crate::binary::binary;
+use crate::canonical::canonical_of;
+use crate::limits::{has_short_text, is_translatable};
 use crate::refusals::TranslateError;
-use crate::writer::Module;
-use ll_tokens::{tokens, utf8};
-use ports::LlError;
-use spv_codec::encode;
+use kernel_tree::Kernel;
+use ports::OutOfMemory;
 use spv_words::Order;
 use std::alloc::Global;
 
@@ -17,21 +16,36 @@ pub const MAX_BYTES: u64 = 16_777_216;
 
 /// The SPIR-V binary of the kernel that a text has, in this byte order.
 pub fn translate(alloc: Global, text: &[u8], order: Order) -> Result<Vec<u8>, TranslateError>
-    ensures { IfOk result (λ bytes. IsBinary order bytes.items) }
+    ensures { MatchResult result
+        (λ bytes. IsTranslation order text.now bytes.items)
+        (IsUntranslated order text.now) }
 {
-    let Ok(text) = utf8(text) else {
-        return Err(TranslateError::Outside);
-    };
-    let tokens = match tokens(alloc, text) {
-        Ok(tokens) => tokens,
-        Err(LlError::Fault(_)) => return Err(TranslateError::Outside),
-        Err(LlError::NoMemory) => return Err(TranslateError::NoMemory),
-    };
-    let kernel = read_kernel(alloc, &tokens)?;
-    let layout = lay_out(alloc, kernel)?;
-    let module = Module::of(alloc, &layout)?;
-    if text_len(&layout) as u64 > MAX_BYTES || module.words() > MAX_BYTES / 4 {
-        return Err(TranslateError::Outside);
+    let kernel = canonical_of(alloc, text)?;
+    match binary_within_limits(alloc, &kernel, order)? {
+        Some(bytes) => Ok(bytes),
+        None => Err(TranslateError::Outside),
     }
-    Ok(encode(alloc, module.raw(), order)?)
+}
+
+/// The binary of a canonical form. None exactly where the form breaks a limit.
+fn binary_within_limits(
+    alloc: Global,
+    kernel: &Kernel,
+    order: Order,
+) -> Result<Option<Vec<u8>>, OutOfMemory>
+    requires { IsNumbered kernel.now }
+    ensures { IfOk result (λ found. MatchOption found (KeepsLimits order kernel.now → ⊥)
+        (λ bytes. KeepsLimits order kernel.now × (bytes.items ≡ binary_of order kernel.now))) }
+{
+    if !is_translatable(kernel) {
+        return Ok(None);
+    }
+    if !has_short_text(alloc, kernel)? {
+        return Ok(None);
+    }
+    let bytes = binary(alloc, kernel, order)?;
+    if bytes.len() as u64 > MAX_BYTES {
+        return Ok(None);
+    }
+    Ok(Some(bytes))
 }

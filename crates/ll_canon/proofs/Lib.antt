@@ -1,4 +1,4 @@
 mod CanonicalMade
 mod NumberedAgain
-mod NumberedForms
-mod SameForms
+pub mod NumberedForms
+pub mod SameForms

@@ -13,18 +13,18 @@ use Rattle.ll_parser.specs.Productions.{◌>>◌, token, mark, each}
 use Rattle.ll_parser.proofs.PointerFacts.{each_push, refused_behind}
 
 -- tokens end in these
-Ends : List Lexeme → List Lexeme → Type 0
+pub Ends : List Lexeme → List Lexeme → Type 0
 Ends tokens rest = (front : List Lexeme) × (tokens ≡ front ++ rest)
 
-token_ends : (kind : TokenKind) (test : Lexeme → Type 0) (tokens rest : List Lexeme) → token kind test tokens rest → Ends tokens rest
+pub token_ends : (kind : TokenKind) (test : Lexeme → Type 0) (tokens rest : List Lexeme) → token kind test tokens rest → Ends tokens rest
 unfolding Ends
 token_ends kind test tokens rest (l, is, _, _) = (l ∷ [], is)
 
-ends_then : (tokens middle rest : List Lexeme) → Ends tokens middle → Ends middle rest → Ends tokens rest
+pub ends_then : (tokens middle rest : List Lexeme) → Ends tokens middle → Ends middle rest → Ends tokens rest
 unfolding Ends
 ends_then tokens middle rest (f, e) (g, d) = (f ++ g, e ∙ ap (λ ts. f ++ ts) d ∙ sym (append_assoc f g rest))
 
-ends_same : (tokens rest : List Lexeme) → tokens ≡ rest → Ends tokens rest
+pub ends_same : (tokens rest : List Lexeme) → tokens ≡ rest → Ends tokens rest
 unfolding Ends
 ends_same tokens rest e = ([], e)
 
@@ -38,7 +38,7 @@ unfolding ◌>>◌
 pointer_ends v tokens rest (a, inl written, star) = ends_then tokens a rest (written_ends v tokens a written) (token_ends _ _ a rest star)
 pointer_ends v tokens rest (a, inr (_, same), star) = ends_then tokens a rest (ends_same tokens a same) (token_ends _ _ a rest star)
 
-ends_drop : (tokens rest : List Lexeme) → Ends tokens rest → drop (length tokens - length rest) tokens ≡ rest
+pub ends_drop : (tokens rest : List Lexeme) → Ends tokens rest → drop (length tokens - length rest) tokens ≡ rest
 unfolding Ends
 ends_drop tokens rest (front, e) =
     let count : length front ≡ length tokens - length rest = omega (arith, ap length e ∙ length-append front rest) in
@@ -56,12 +56,18 @@ unfolding ◌>>◌
 pointer_shorter v tokens rest (a, inl written, star) = star_shorter tokens a rest (written_ends v tokens a written) star
 pointer_shorter v tokens rest (a, inr (_, same), star) = star_shorter tokens a rest (ends_same tokens a same) star
 
-lexemes_drop : (n : ℕ) (tokens : List Token) → lexemes_of (drop n tokens) ≡ drop n (lexemes_of tokens)
+pub ends_length : (tokens rest : List Lexeme) → Ends tokens rest → length rest ≤ length tokens
+unfolding Ends
+ends_length tokens rest (front, e) =
+    let whole : length tokens ≡ length front + length rest = ap length e ∙ length-append front rest in
+    omega arith
+
+pub lexemes_drop : (n : ℕ) (tokens : List Token) → lexemes_of (drop n tokens) ≡ drop n (lexemes_of tokens)
 lexemes_drop zero tokens = refl
 lexemes_drop (suc n) [] = refl
 lexemes_drop (suc n) (t ∷ ts) = lexemes_drop n ts
 
-drop_ends : (n : ℕ) (tokens : List Lexeme) → Ends tokens (drop n tokens)
+pub drop_ends : (n : ℕ) (tokens : List Lexeme) → Ends tokens (drop n tokens)
 unfolding Ends
 drop_ends n tokens = (take n tokens, sym (take-append-drop n tokens))
 

@@ -5,3 +5,4 @@ pub mod SpaceFacts
 pub mod TokenFacts
 pub mod OneReading
 pub mod WordTypeFacts
+pub mod TableFacts

@@ -5,9 +5,12 @@ pub mod GrammarInsts
 pub mod GrammarItems
 pub mod GrammarTypes
 pub mod GrammarValues
+pub mod NameCodes
+pub mod NameReading
 pub mod Pointers
 pub mod Productions
 pub mod Reading
 pub mod Spaces
 pub mod Spellings
+pub mod Tables
 pub mod WordTypes

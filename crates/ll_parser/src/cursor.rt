@@ -28,6 +28,13 @@ pub fn unexpected(tokens: &[Token<'_>]) -> Refusal
     }
 }
 
+/// Whether the token is of this kind.
+pub fn is_of_kind(token: &Token<'_>, kind: TokenKind) -> bool
+    ensures { IsTrue result ↔ ((lexeme_of token.now).kind ≡ kind) }
+{
+    token.kind == kind
+}
+
 /// What is left behind this word of the language, with which the tokens begin. It fails by rule 3 at the
 /// first token where they don't.
 pub fn take_word<'t, 'a>(tokens: &'t [Token<'a>], text: &str) -> Result<&'t [Token<'a>], Refusal>

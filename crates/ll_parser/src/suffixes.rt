@@ -34,7 +34,7 @@ pub fn pointers<'t, 'a>(
 }
 
 /// The last ones of these tokens, this many.
-fn last<'t, 'a>(tokens: &'t [Token<'a>], count: usize) -> &'t [Token<'a>]
+pub fn last<'t, 'a>(tokens: &'t [Token<'a>], count: usize) -> &'t [Token<'a>]
     requires { count ≤ length tokens.now }
     ensures { result.now ≡ drop (length tokens.now - count) tokens.now }
 {

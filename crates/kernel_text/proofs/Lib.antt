@@ -1,0 +1,15 @@
+pub mod BlockFacts
+pub mod InstFacts
+pub mod KernelFacts
+pub mod ManyFacts
+pub mod NameFacts
+pub mod OperandFacts
+pub mod ParamFacts
+pub mod PhraseFacts
+pub mod PieceFacts
+pub mod ReadFacts
+pub mod Sequences
+pub mod Shorter
+pub mod SignatureFacts
+pub mod Triples
+pub mod OneKernel

@@ -1,0 +1,5 @@
+use Rattle.kt_driver.proofs.Sources.{translation-not-refused}
+use Rattle.kt_driver.proofs.laws.translation_or_refusal.Goals as goal
+
+pub returns : goal.returns
+returns c = translation-not-refused

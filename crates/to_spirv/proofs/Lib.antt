@@ -1,0 +1,11 @@
+pub mod AloneLemmas
+pub mod DifferLemmas
+pub mod FitLemmas
+pub mod LimitLemmas
+pub mod NumberLemmas
+pub mod OrderLemmas
+pub mod PairLemmas
+pub mod SectionLemmas
+pub mod TextLemmas
+pub mod TypeLemmas
+pub mod Utf8Lemmas

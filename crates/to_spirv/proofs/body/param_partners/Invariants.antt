@@ -1,0 +1,6 @@
+use Rattle.std.proofs.Common.{◌≡◌, map, take}
+use Rattle.to_spirv.specs.Partner.{param_partner}
+use Rattle.to_spirv.proofs.body.param_partners.Given as goal
+
+abbrev pub invariant-loop-param : goal.invariant-loop-param
+invariant-loop-param l = l.all.items ≡ map (param_partner l.ids) (take l.param-index l.params)

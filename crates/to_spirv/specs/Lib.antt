@@ -1,0 +1,10 @@
+pub mod ClosedTypes
+pub mod FirstKernels
+pub mod KernelTypes
+pub mod Laws
+pub mod Limits
+pub mod Pairing
+pub mod Partner
+pub mod Ranges
+pub mod SameKernels
+pub mod TypeTrees
