@@ -1,5 +1,5 @@
 -- An input is the text of one kernel at most, but for the numbers of its names.
-use Rattle.std.proofs.Common.{◌≡◌, ℕ, true, false, List, [], length, Option, None, Some, ap, sym, ◌∙◌, subst, arith}
+use Rattle.std.proofs.Common.{◌≡◌, ℕ, true, false, List, [], length, None, Some, ap, sym, ◌∙◌, subst, arith}
 use Rattle.ll_tokens.specs.Tokens.{IsTokens, IsTokenFault, Lexeme}
 use Rattle.ll_tokens.proofs.Places.{one_reading, no_token_at_end}
 use Rattle.kernel_text.specs.Grammar.{IsKernelText}

@@ -1,10 +1,17 @@
 -- What the translation of a text is, and why a text has none.
-use Rattle.std.specs.Prelude.{◌≡◌, ◌≢◌, ℕ, ◌≤◌, true, List, All, IsUtf8, None, Some, length}
+use Rattle.std.specs.Prelude.{◌≡◌, ℕ, ◌+◌, ◌≤◌, true, List, IsUtf8, None, Some, length}
+use Rattle.kern_acts.specs.Bodies.{bodies_size}
+use Rattle.kern_events.specs.declared.item.Inputs.{Inputs}
+use Rattle.ll_play.specs.Meaning.{llvm_run}
+use Rattle.spv_play.specs.Meaning.{spirv_run}
+use Rattle.kernel_runs.specs.Alike.{SameRuns}
+use Rattle.kernel_runs.specs.Laws.{text_size}
 use Rattle.ll_tokens.specs.Tokens.{IsTokens, Lexeme}
 use Rattle.kernel_text.specs.Grammar.{IsKernelText}
 use Rattle.kernel_tree.specs.declared.kernel.Kernel.{Kernel}
 use Rattle.kernel_tree.specs.Canonical.{canonical}
 use Rattle.kernel_tree.specs.Covered.{first_undefined, is_covered}
+use Rattle.kernel_tree.specs.Modules.{text_module}
 use Rattle.kernel_tree.specs.Text.{kernel_text}
 use Rattle.spv_codec.specs.declared.module.RawModule.{RawModule}
 use Rattle.spv_codec.specs.Framing.{IsSpirv, module_words}
@@ -12,6 +19,7 @@ use Rattle.spv_module.specs.Sections.{flattened}
 use Rattle.spv_words.specs.declared.words.Order.{Order}
 use Rattle.spv_words.specs.Words.{words_bytes}
 use Rattle.to_spirv.specs.Limits.{HasPlainName, IsWithinLimits}
+use Rattle.to_spirv.specs.Pairing.{Pairs}
 use Rattle.to_spirv.specs.Partner.{partner}
 use Rattle.kt_driver.specs.declared.refusals.TranslateError.{TranslateError}
 use Rattle.kt_driver.specs.declared.refusals.TranslateError.TheVariants.{NoMemory, UndefinedName, Outside}
@@ -53,10 +61,20 @@ pub record IsTranslatable (order : Order) (input : List ℕ) (form : Kernel) : T
   pub canonical : IsCanonicalOf input form
   pub limits : KeepsLimits order form
 
--- the bytes are those of the module that pairs with the canonical form of the input's kernel, and they break no rule of framing
+-- whatever kernel is asked for and on whatever item, arguments and answers, the module of the binary shows the events and the outcome that the
+-- module of text shows, step by step, and they are alike within the stretch of steps that their sizes give
+abbrev pub ShowTheSame : Kernel → Kernel → Type 0
+ShowTheSame source form =
+    (name : List ℕ) (inputs : Inputs)
+    → SameRuns (text_size source + bodies_size (partner form).bodies) (llvm_run (text_module source) name inputs) (spirv_run (partner form) name inputs)
+
+-- the bytes are those of the module that pairs with the canonical form of the input's kernel and shows what this shows, and they break no rule
+-- of framing
 pub record IsTranslation (order : Order) (input bytes : List ℕ) : Type 0 where
   pub form : Kernel
   pub translatable : IsTranslatable order input form
+  pub pairs : Pairs (text_module form) (partner form)
+  pub alike : ShowTheSame translatable.canonical.source form
   pub spelled : bytes ≡ binary_of order form
   pub binary : IsBinary order bytes
 

@@ -40,6 +40,7 @@ abbrev pub needed_where : Bool → List KernelParam → Bool → TypesNeeded
 needed_where true params has_results = ParamPointer
 needed_where false params has_results = needed_without_pointer params has_results
 
+-- which types the module of a kernel with these parameters and these instructions has, besides `void` and the function's type
 abbrev pub needed_by : List KernelParam → List KernelInst → TypesNeeded
 needed_by params insts = needed_where (list_any takes_pointer params) params (list_any has_value insts)
 
@@ -50,6 +51,7 @@ listed_by ResultInt row = Void ∷ Function Void row ∷ Int ∷ []
 listed_by ParamInt row = Void ∷ Int ∷ Function Void row ∷ []
 listed_by ParamPointer row = Void ∷ Int ∷ Pointer Int ∷ Function Void row ∷ []
 
+-- their ids, and that of the function
 abbrev pub ids_by : TypesNeeded → Ids
 ids_by Neither = record { void = 1; int = 3; pointer = 3; function_type = 2; function = 3 }
 ids_by ResultInt = record { void = 1; int = 3; pointer = 4; function_type = 2; function = 4 }
@@ -90,5 +92,6 @@ with_behind ParamPointer types = types
 abbrev pub value_place : Ids → KernelParam → TyId
 value_place ids param = type_at (value_type_id ids param.value_type - 1)
 
+-- the function's type as the table holds it
 abbrev pub function_entry : Ids → List KernelParam → Ty
 function_entry ids params = ty.Function (type_at 0) (map (value_place ids) params)

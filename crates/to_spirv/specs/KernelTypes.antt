@@ -13,6 +13,7 @@ abbrev pub tree_of : ValueType → TypeTree
 tree_of i32 = Int
 tree_of i32_pointer = Pointer Int
 
+-- the types of the parameters
 abbrev pub row_of_params : List KernelParam → TypeRow
 row_of_params [] = End
 row_of_params (param ∷ params) = Then (tree_of param.value_type) (row_of_params params)
@@ -21,6 +22,7 @@ row_of_params (param ∷ params) = Then (tree_of param.value_type) (row_of_param
 abbrev pub function_tree : List KernelParam → TypeTree
 function_tree params = Function Void (row_of_params params)
 
+-- the type of the value that an instruction has
 abbrev pub result_trees : KernelInst → List TypeTree
 result_trees (Add sum left right) = Int ∷ []
 result_trees (Load loaded pointer is_aligned) = Int ∷ []

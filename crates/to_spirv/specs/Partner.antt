@@ -62,7 +62,7 @@ named_types listed = record {
   names = map type_name (range_with_len 1 (length listed));
 }
 
--- the id of a parameter, of the block or of the value of an instruction
+-- the id of a parameter, of the block or of the value of an instruction: the ids of names count on from that of the function
 abbrev pub id_of : Ids → Name → ℕ
 id_of ids name = ids.function + name.number
 

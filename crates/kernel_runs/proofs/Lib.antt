@@ -1,0 +1,12 @@
+pub mod Runs
+pub mod Joins
+pub mod Lockstep
+pub mod Plays
+pub mod Going
+pub mod Starts
+pub mod Texts
+pub mod Typings
+pub mod Binaries
+pub mod TypedForms
+pub mod CoveredForms
+pub mod Forms

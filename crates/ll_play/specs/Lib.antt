@@ -1,0 +1,5 @@
+pub mod Types
+pub mod Acts
+pub mod Meaning
+pub mod KnownActs
+pub mod Laws

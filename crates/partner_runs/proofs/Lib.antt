@@ -1,0 +1,3 @@
+mod Listed
+mod Partners
+pub mod Translations

@@ -1,0 +1,6 @@
+pub mod Types
+pub mod Acts
+pub mod Meaning
+pub mod KnownActs
+pub mod Laws
+pub mod FirstRuns
