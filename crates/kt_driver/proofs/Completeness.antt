@@ -1,11 +1,16 @@
--- What is refused is too long, or something in it is due to be refused.
-use Rattle.std.proofs.Common.{◌≡◌, ℕ, ◌≤◌, List, ◌++◌, length, sym, ◌∙◌, ap, subst, append-nil, length-append, arith}
+-- What is refused is too long, or something in it is due to be refused, and what is answered is neither.
+use Rattle.std.proofs.Common.{◌≡◌, ℕ, ◌<◌, ◌≤◌, inl, inr, List, ◌++◌, length, sym, ◌∙◌, ap, subst, append-nil, length-append, arith}
 use Rattle.std.specs.Prelude.{Option, Some, None}
 use Rattle.ports.specs.Streams.{GivesSome, GivesCount}
 use Rattle.kt_driver.specs.declared.refusals.Refusal.{Refusal}
 use Rattle.kt_driver.specs.declared.refusals.Refusal.TheVariants.{TooLong, UndefinedName, Outside, Unreadable, Misframed}
 use Rattle.kt_driver.specs.declared.request.Request.{Request}
-use Rattle.kt_driver.specs.Runs.{IsDue, IsFree, ReadsFor, ReadsRefused, ReadsWhole}
+use Rattle.kt_driver.specs.declared.request.Format.{Format}
+use Rattle.kt_driver.specs.declared.request.Format.TheVariants.{Llvm, Spirv}
+use Rattle.kt_driver.specs.declared.request.Request.TheVariants.{Translate, Show}
+use Rattle.kt_driver.specs.Runs.{IsAnswer, IsDue, IsFree, IsListed, IsRefusedFor, IsUnlisted, ReadsAnswered, ReadsFor, ReadsRefused, ReadsWhole}
+use Rattle.kt_driver.proofs.Sources.{not-stuck, translation-not-refused}
+use Rattle.spv_codec.proofs.FramingLaws.{module-or_fault}
 
 -- more was given than there is
 too-many : (input : List ℕ) (old new : Option (List ℕ)) → old ≡ Some input → length input ≤ 16777216 → GivesCount 16777217 old new → ⊥
@@ -45,3 +50,26 @@ GivesSome-ReadsFor request (UndefinedName byte) old new reads = record { given =
 GivesSome-ReadsFor request Outside old new reads = record { given = reads.input; gives = reads.reads.gives }
 GivesSome-ReadsFor request (Unreadable fault) old new reads = record { given = reads.input; gives = reads.reads.gives }
 GivesSome-ReadsFor request (Misframed fault) old new reads = record { given = reads.input; gives = reads.reads.gives }
+
+listed-not-refused : (format : Format) (input bytes : List ℕ) (refusal : Refusal) → IsListed format input bytes → IsUnlisted format input refusal → ⊥
+listed-not-refused format input bytes (TooLong other) is due = due
+listed-not-refused format input bytes (UndefinedName byte) is due = due
+listed-not-refused format input bytes Outside is due = due
+listed-not-refused Llvm input bytes (Unreadable fault) is due =
+    elim due [ inl encoding ↦ encoding.no_text is.utf8 | inr token ↦ not-stuck input is.tokens fault.byte is.are_tokens token.2 ]
+listed-not-refused Spirv input bytes (Unreadable fault) is due = due
+listed-not-refused Llvm input bytes (Misframed fault) is due = due
+listed-not-refused Spirv input bytes (Misframed fault) is due = module-or_fault input is.raw fault is.spirv due
+
+answer-not-refused : (request : Request) (input bytes : List ℕ) (refusal : Refusal) → IsAnswer request input bytes → IsDue request input refusal → ⊥
+answer-not-refused (Translate from to order) input bytes refusal is due = translation-not-refused order input bytes refusal is due
+answer-not-refused (Show from) input bytes refusal is due = listed-not-refused from input bytes refusal is due
+
+-- nothing is refused in an input that is answered
+pub answered-not_refused : (request : Request) (refusal : Refusal) (input bytes : List ℕ) (old new : Option (List ℕ)) → old ≡ Some input
+    → ReadsAnswered request bytes old new → IsRefusedFor (Some request) input refusal → ⊥
+answered-not_refused request refusal input bytes old new is reads (inl due) =
+    let P : List ℕ → Type 0 = λ xs. IsDue request xs refusal in
+    answer-not-refused request reads.input bytes refusal reads.answer (subst P (sym (whole-is input reads.input old new is reads.reads)) due.1)
+answered-not_refused request refusal input bytes old new is reads (inr long) =
+    omega (arith, long.0, reads.reads.within, ap length (whole-is input reads.input old new is reads.reads))

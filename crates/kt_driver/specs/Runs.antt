@@ -1,5 +1,5 @@
 -- What a run does to its source and its sinks.
-use Rattle.std.specs.Prelude.{◌≡◌, ◌≢◌, ℕ, ◌≤◌, List, [], ◌∷◌, ◌++◌, codes, length, Option, Some, None, Result, Ok, Err, string_bytes}
+use Rattle.std.specs.Prelude.{◌≡◌, ◌≢◌, ◌⊎◌, ℕ, ◌<◌, ◌≤◌, List, [], ◌∷◌, ◌++◌, codes, length, Option, Some, None, Result, Ok, Err, string_bytes}
 use Rattle.std.specs.Io.KnownBytes.{IsAtEnd}
 use Rattle.ports.specs.Causes.{Rose}
 use Rattle.ports.specs.Streams.{Gives, GivesSome, GivesCount, Takes, TakesPrefix}
@@ -152,3 +152,9 @@ pub record FailsToAnswer (request : Option Request) (left_old left_new held_old 
 abbrev pub IsFree : Option Request → List ℕ → Type 0
 IsFree None input = ⊥
 IsFree (Some request) input = (length input ≤ 16777216) × ((refusal : Refusal) → IsDue request input refusal → ⊥)
+
+-- the words make a request for which this is refused in the input
+abbrev pub IsRefusedFor : Option Request → List ℕ → Refusal → Type 0
+IsRefusedFor None input refusal = ⊥
+IsRefusedFor (Some request) input refusal =
+    ((length input ≤ 16777216) × IsDue request input refusal) ⊎ ((16777216 < length input) × (refusal ≡ TooLong (input_format request)))

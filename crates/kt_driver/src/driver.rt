@@ -2,7 +2,8 @@ ghost use Rattle.std.specs.Prelude.{◌≡◌, ◌≢◌, ◌⊎◌, ℕ, List, 
 ghost use Rattle.ports.specs.Causes.{Rose};
 ghost use Rattle.ports.specs.Streams.{GivesSome, Takes};
 ghost use Rattle.kt_driver.specs.Requests.{request_of, texts_of};
-ghost use Rattle.kt_driver.specs.Runs.{usage_line, IsFree, TellsRefusal, TakesAnswer, FailsToTell, FailsToAnswer};
+ghost use Rattle.kt_driver.specs.declared.refusals.Refusal.{Refusal};
+ghost use Rattle.kt_driver.specs.Runs.{usage_line, IsFree, IsRefusedFor, TellsRefusal, TakesAnswer, FailsToTell, FailsToAnswer};
 
 use crate::reply::{Reply, ReplyError, reply_to};
 use crate::request::read_request;
@@ -58,6 +59,10 @@ pub fn run<S: Source, O: Sink, E: Sink>(
     // An input that nothing is refused in is answered, unless a call failed or memory is wanting.
     ensures complete { (input : List ℕ) → S.left src.old ≡ Some input → IsFree (request_of (texts_of words.now)) input →
         (result ≡ Status.Ok) ⊎ (result ≡ Status.NoMemory) ⊎ (result ≡ Status.ReadFault) ⊎ (result ≡ Status.WriteFault) }
+
+    // An input in which something is refused is refused, unless a call failed or memory is wanting.
+    ensures due { (input : List ℕ) (refusal : Refusal) → S.left src.old ≡ Some input → IsRefusedFor (request_of (texts_of words.now)) input refusal →
+        (result ≡ Status.Refused) ⊎ (result ≡ Status.NoMemory) ⊎ (result ≡ Status.ReadFault) ⊎ (result ≡ Status.WriteFault) }
 
     // Nothing else is written.
     ensures out_untouched { result ≢ Status.Ok → result ≢ Status.WriteFault → out.new ≡ out.old }
