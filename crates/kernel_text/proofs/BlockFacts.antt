@@ -58,7 +58,7 @@ unfolding ◌>>◌
 block_join next names b tokens rest (m, inl label, d) = (m, inl label, d)
 block_join next names b tokens rest (m, inr (numbered, place, same, none), d) = (m, inr (numbered, place, same), d)
 
-label_any : (names : List NameText) (name : Name) (tokens rest : List Lexeme) → written_name sort.Label names name tokens rest → any_of Label tokens rest
+pub label_any : (names : List NameText) (name : Name) (tokens rest : List Lexeme) → written_name sort.Label names name tokens rest → any_of Label tokens rest
 label_any names name tokens rest (l, is, kind, tested) = (l, is, kind, tt)
 
 pub block_name_one : (next next' : ℕ) (names names' : List NameText) (x y : Name) → LeavesOne (block_name_here next names x) (block_name_here next' names' y)

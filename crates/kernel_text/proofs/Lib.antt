@@ -4,6 +4,7 @@ pub mod KernelFacts
 pub mod ManyFacts
 pub mod NameFacts
 pub mod OperandFacts
+pub mod OneKernel
 pub mod ParamFacts
 pub mod PhraseFacts
 pub mod PieceFacts
@@ -12,4 +13,3 @@ pub mod Sequences
 pub mod Shorter
 pub mod SignatureFacts
 pub mod Triples
-pub mod OneKernel

@@ -1,8 +1,8 @@
 -- Tokens are those of one kernel at most, but for the numbers that its table gives to names.
-use Rattle.std.proofs.Common.{◌≡◌, ℕ, Bool, true, false, List, [], ◌∷◌, Option, None, Some, slice_get, map, refl, sym, ap, ap₂, ◌∙◌, subst, inl, inr}
+use Rattle.std.proofs.Common.{◌≡◌, ℕ, Bool, true, false, List, [], ◌∷◌, Option, Some, slice_get, map, refl, sym, ap, ◌∙◌, subst, inl, inr}
 use Rattle.ll_tokens.specs.Tokens.{Lexeme}
 use Rattle.ll_parser.specs.GrammarFunctions.{begins_at, next_after, next_behind}
-use Rattle.ll_parser.specs.Productions.{Production, nothing, ◌>>◌, each, each_behind_comma, listed}
+use Rattle.ll_parser.specs.Productions.{Production, nothing, ◌>>◌, each, listed}
 use Rattle.ll_parser.specs.Spellings.{spelling_of}
 use Rattle.ll_parser.proofs.TokenFacts.{same_first}
 use Rattle.ll_tree.specs.declared.name.Name.{Name}
@@ -19,11 +19,10 @@ use Rattle.kernel_tree.specs.Same.{IsSameInst, IsSameKernel, IsSameName, IsSameP
 use Rattle.kernel_text.specs.declared.blocks.BlockText.{BlockText}
 use Rattle.kernel_text.specs.declared.name_sorts.NameSort.{NameSort}
 use Rattle.kernel_text.specs.declared.name_sorts.NameSort.TheVariants as sort
-use Rattle.kernel_text.specs.declared.phrases.Phrase.{Phrase}
 use Rattle.kernel_text.specs.declared.phrases.Phrase.TheVariants as phrase
-use Rattle.kernel_text.specs.Grammar.{IsKernelText, block_name, inst, kernel, number_behind, param, suffix, targets}
+use Rattle.kernel_text.specs.Grammar.{IsKernelText, number_behind, param, suffix, targets}
 use Rattle.kernel_text.specs.NameSorts.{name_kind, spelled_text, written_name}
-use Rattle.kernel_text.specs.Parts.{AtReturn, NoComma, align_here, all_of, block, block_name_here, inst_here, insts_end, next_param}
+use Rattle.kernel_text.specs.Parts.{AtReturn, NoComma, align_here, block, block_name_here, inst_here, insts_end, next_param}
 use Rattle.kernel_text.specs.Phrases.{pieces_of, words_of}
 use Rattle.kernel_text.proofs.BlockFacts.{block_name_one, block_shape}
 use Rattle.kernel_text.proofs.InstFacts.{inst_goes_on, inst_here_rest, insts_end_shape, insts_rest, value_no_store}
@@ -31,7 +30,7 @@ use Rattle.kernel_text.proofs.NameFacts.{written_rest}
 use Rattle.kernel_text.proofs.ParamFacts.{behind_nothing, commas_as_each, int_no_start, more_params_rest, next_param_goes_on, next_param_rest, param_rest, start_no_comma, value_no_suffix}
 use Rattle.kernel_text.proofs.PhraseFacts.{differ, is_same_wanted, words_apart, words_one}
 use Rattle.kernel_text.proofs.ReadFacts.{Item, OneRest}
-use Rattle.kernel_text.proofs.Sequences.{Apart, LeavesOne, begins, kind_number, nothing_one, seq_one, swapped}
+use Rattle.kernel_text.proofs.Sequences.{Apart, LeavesOne, begins, kind_number}
 
 -- what stands behind two productions that leave one rest of the same tokens
 record Behind (p p' q q' : Production) (tokens a b : List Lexeme) : Type 0 where

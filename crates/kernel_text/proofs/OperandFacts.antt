@@ -21,7 +21,7 @@ use Rattle.kernel_text.proofs.Triples.{behind_phrase, behind_words_rest, reads_b
 use Rattle.kernel_text.proofs.Sequences.{kind_number, LeavesOne, Apart, seq_one, seq_apart_first, swapped, begins, behind}
 
 -- `,` stands where `, align 4` does
-comma_first : (tokens rest : List Lexeme) → words_of phrase.Align tokens rest → NoComma tokens → ⊥
+pub comma_first : (tokens rest : List Lexeme) → words_of phrase.Align tokens rest → NoComma tokens → ⊥
 unfolding pieces_of ◌>>◌
 comma_first tokens rest (m, comma, more) none = none m (m, comma, refl)
 

@@ -183,7 +183,7 @@ unfolding ◌>>◌
 params_from_some names [] tokens rest d = absurd d
 params_from_some names (p ∷ ps) tokens rest (m, d, (n, more, words)) = (n, (m, d, more), words)
 
-some_from_params : (names : List NameText) (p : KernelParam) (ps : List KernelParam) (tokens rest : List Lexeme) → params names (p ∷ ps) tokens rest → some_params names (p ∷ ps) tokens rest
+pub some_from_params : (names : List NameText) (p : KernelParam) (ps : List KernelParam) (tokens rest : List Lexeme) → params names (p ∷ ps) tokens rest → some_params names (p ∷ ps) tokens rest
 unfolding ◌>>◌
 some_from_params names p ps tokens rest (n, (m, d, more), words) = (m, d, (n, more, words))
 
@@ -198,7 +198,7 @@ params_answer of left old new tokens none (Err e) start fails = fails_by some_pa
 some_one : (names names' : List NameText) (p q : KernelParam) (ps qs : List KernelParam) → LeavesOne (some_params names (p ∷ ps)) (some_params names' (q ∷ qs))
 some_one names names' p q ps qs = seq_one _ _ _ _ (param_rest names names' p q) (params_end_rest names names' ps qs)
 
-some_no_start : (names : List NameText) (p : KernelParam) (ps : List KernelParam) → Apart (some_params names (p ∷ ps)) (words_of phrase.BodyStart)
+pub some_no_start : (names : List NameText) (p : KernelParam) (ps : List KernelParam) → Apart (some_params names (p ∷ ps)) (words_of phrase.BodyStart)
 some_no_start names p ps = first_apart _ _ _ (first_apart _ _ _ int_no_start)
 
 pub params_rest : OneRest params

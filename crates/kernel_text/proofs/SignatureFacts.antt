@@ -21,7 +21,7 @@ use Rattle.kernel_text.proofs.ReadFacts.{Item, OneRest, unnamed, unnamed_reads, 
 use Rattle.kernel_text.proofs.Sequences.{kind_number, LeavesOne, Apart, nothing_one, seq_one, begins, behind}
 use Rattle.kernel_text.proofs.Triples.{behind_words_rest, fails_at_first, fails_at_phrase, fails_at_last, reads_three}
 
-lines_no_kernel : Apart (words_of phrase.TargetLines) (words_of phrase.KernelWords)
+pub lines_no_kernel : Apart (words_of phrase.TargetLines) (words_of phrase.KernelWords)
 unfolding pieces_of differ is_same_wanted kind_number
 lines_no_kernel = words_apart phrase.TargetLines phrase.KernelWords refl
 

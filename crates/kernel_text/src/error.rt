@@ -3,7 +3,9 @@ use std::alloc::AllocError;
 /// Why no kernel is read.
 #[derive(Clone, Copy, Debug, PartialEq, Eq)]
 pub enum KernelTextError {
+    /// Memory is wanting, or there are 2^32 names.
     NoMemory,
+
     /// The tokens are no kernel of the covered subset.
     Outside,
 }

@@ -16,4 +16,4 @@ mod signatures;
 
 pub use error::KernelTextError;
 pub use kernels::read_kernel;
-pub use laws::one_kernel;
+pub use laws::{kernels_are_read, one_kernel};

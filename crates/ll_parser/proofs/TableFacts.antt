@@ -1,16 +1,17 @@
 -- Tables of names that grow.
-use Rattle.std.proofs.Common.{◌≡◌, ℕ, zero, suc, ◌<◌, ◌⊎◌, true, true≢false, nat_eq, List, [], ◌∷◌, ◌++◌, slice_get, get_or, drop, Some, refl, sym, ap, ◌∙◌, subst, inl, inr, arith, append_assoc}
-use Rattle.std.specs.List.{IsDistinct}
+use Rattle.std.proofs.Common.{◌≡◌, ℕ, zero, suc, ◌<◌, ◌⊎◌, true, true≢false, if◌then◌else◌, nat_eq, List, [], ◌∷◌, ◌++◌, slice_get, get_or, drop, Some, refl, sym, ap, ◌∙◌, subst, inl, inr, arith, append_assoc}
+use Rattle.std.specs.List.{IsDistinct, list_any}
+use Rattle.indexmap.specs.IndexSet.{insert_key}
 use Rattle.std.specs.Ordering.{on}
 use Rattle.std.specs.Cmp.Lexicographic.{pointwise, bytes_decides}
-use Rattle.std.proofs.lemmas.Map.Keys.{apart_from_distinct}
+use Rattle.std.proofs.lemmas.Map.Keys.{apart_from_distinct, any_passes_from_place}
 use Rattle.std.proofs.lemmas.Option.{slice_get_within, get_or_from_slice_get}
 use Rattle.ll_tokens.specs.declared.kinds.TokenKind.{TokenKind}
 use Rattle.ll_tokens.specs.Tokens.{Lexeme}
 use Rattle.ll_tree.specs.declared.name.NameKind.{NameKind}
 use Rattle.ll_tree.specs.declared.name.NameText.{NameText}
 use Rattle.ll_tree.specs.declared.name.Spelling.{Spelling}
-use Rattle.ll_parser.specs.NameCodes.{name_code, is_same_name}
+use Rattle.ll_parser.specs.NameCodes.{name_code, is_same_name, same_names_are_one}
 use Rattle.ll_parser.specs.NameReading.{SpellsWith, ReadsWith, signed_name}
 use Rattle.ll_parser.specs.Spellings.{IsInReach, Spells, spelling_of}
 use Rattle.ll_parser.specs.Tables.{Extends, NoNameTwice}
@@ -72,3 +73,10 @@ not_below names i j entry distinct at_i at_j lt =
 -- names that a set tells apart are there once
 pub once : (names : List NameText) → IsDistinct (on name_code (pointwise nat_eq)) names → NoNameTwice names
 once names distinct i j entry at_i at_j = equal_from i j (not_below names i j entry distinct at_i at_j) (not_below names j i entry distinct at_j at_i)
+
+-- a name that the table has keeps its number
+pub found_again : (old new : List NameText) (name : NameText) (number i : ℕ) → new ≡ insert_key (on name_code (pointwise nat_eq)) old name → IsDistinct (on name_code (pointwise nat_eq)) new → (k : NameText) → slice_get new number ≡ Some k → is_same_name name k ≡ true → slice_get old i ≡ Some name → (number ≡ i) × (new ≡ old)
+found_again old new name number i is distinct k entry same_name at =
+    let there : list_any (on name_code (pointwise nat_eq) name) old ≡ true = any_passes_from_place (on name_code (pointwise nat_eq) name) old i name at (same_as_itself name) in
+    let same : new ≡ old = is ∙ ap (λ b. if b then old else old ++ name ∷ []) there in
+    (once new distinct number i name (entry ∙ ap (λ (n : NameText). Some n) (sym (same_names_are_one name k same_name))) (subst (λ ns. slice_get ns i ≡ Some name) (sym same) at), same)

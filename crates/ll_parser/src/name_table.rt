@@ -1,4 +1,4 @@
-ghost use Rattle.std.specs.Prelude.{◌≡◌, ◌⊎◌, ◌++◌, ◌∷◌, [], Some, slice_get, IfOk, OnOk, OnErr, length};
+ghost use Rattle.std.specs.Prelude.{◌≡◌, ℕ, ◌⊎◌, ◌++◌, ◌∷◌, [], Some, slice_get, IfOk, OnOk, OnErr, length};
 ghost use Rattle.std.specs.Option.{option_copied};
 ghost use Rattle.ll_parser.specs.Tables.{NoNameTwice};
 
@@ -43,6 +43,7 @@ impl NameTable {
     /// is told too where the table has 2^32 names; the table then stays as it is.
     pub fn number_of(&mut self, name: NameText) -> Result<u32, AllocError>
         ensures entry { IfOk result (λ number. slice_get self.new number ≡ Some name) }
+        ensures known { (i : ℕ) → slice_get self.old i ≡ Some name → IfOk result (λ number. (number ≡ i) × (self.new ≡ self.old)) }
         ensures kept { (self.new ≡ self.old) ⊎ (self.new ≡ self.old ++ name ∷ []) }
         ensures err { OnErr result (self.new ≡ self.old) }
     {
@@ -50,9 +51,10 @@ impl NameTable {
             return Err(AllocError);
         }
         match self.names.insert_full(NameKey::new(name)) {
-            Ok((place, _is_new)) => Ok(place as u32),
-            Err(_refused) => Err(AllocError),
+            Ok((place, _is_new)) => return Ok(place as u32),
+            Err(_refused) => {}
         }
+        Err(AllocError)
     }
 
     /// The name of a number. None exactly where no name has it.
