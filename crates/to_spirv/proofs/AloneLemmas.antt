@@ -115,32 +115,33 @@ AlikeInsts f ids (Store value pointer is_aligned) (Store value2 pointer2 is_alig
 AlikeInsts f ids inst other = ⊥
 
 -- what a known row says of a pair
-record RowFacts (f : ℕ → ℕ) (types : NamedTypes) (row : Row) (name : Option Name) (spv : SpvInst) : Type 0 where
-  opcode : spv.op ≡ number_of row.opcode
-  given : PairsResult f types name row.result_type spv
-  values : AllZip (PairsValue f types) row.values spv.operands.ids
+pub record RowFacts (f : ℕ → ℕ) (types : NamedTypes) (row : Row) (name : Option Name) (spv : SpvInst) : Type 0 where
+  pub opcode : spv.op ≡ number_of row.opcode
+  pub given : PairsResult f types name row.result_type spv
+  pub values : AllZip (PairsValue f types) row.values spv.operands.ids
+  pub words : spv.operands.words ≡ row.words
 
-row-facts : (f : ℕ → ℕ) (types : NamedTypes) (row : Row) (inst : Inst) (spv : SpvInst) → row_of inst.op ≡ Some row → PairsInst f types inst spv
+pub row-facts : (f : ℕ → ℕ) (types : NamedTypes) (row : Row) (inst : Inst) (spv : SpvInst) → row_of inst.op ≡ Some row → PairsInst f types inst spv
     → RowFacts f types row inst.defines spv
 row-facts f types row inst spv is pair =
     let same : pair.found ≡ row = ap (λ o. unwrap_or o row) (sym pair.is ∙ is) in
-    let facts : RowFacts f types pair.found inst.defines spv = record { opcode = pair.opcode; given = pair.given; values = pair.values } in
+    let facts : RowFacts f types pair.found inst.defines spv = record { opcode = pair.opcode; given = pair.given; values = pair.values; words = pair.words } in
     subst (λ (r : Row). RowFacts f types r inst.defines spv) same facts
 
-abbrev is_known : Option Row → Bool
+abbrev pub is_known : Option Row → Bool
 is_known None = false
 is_known (Some row) = true
 
-abbrev add_row : Name → Name → Row
+abbrev pub add_row : Name → Name → Row
 add_row left right = record { opcode = op.IAdd; result_type = Some (type_of i32); values = local left ∷ local right ∷ []; words = [] }
 
-abbrev load_row : Name → Row
+abbrev pub load_row : Name → Row
 load_row pointer = record { opcode = op.Load; result_type = Some (type_of i32); values = local pointer ∷ []; words = 2 ∷ 4 ∷ [] }
 
-abbrev store_row : Name → Name → Row
+abbrev pub store_row : Name → Name → Row
 store_row value pointer = record { opcode = op.Store; result_type = None; values = local pointer ∷ local value ∷ []; words = 2 ∷ 4 ∷ [] }
 
-abbrev return_row : Row
+abbrev pub return_row : Row
 return_row = record { opcode = op.Return; result_type = None; values = []; words = [] }
 
 module _ (f : ℕ → ℕ) (ids : Ids) (types : NamedTypes) where

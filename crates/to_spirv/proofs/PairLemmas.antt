@@ -21,13 +21,14 @@ use Rattle.kernel_tree.specs.declared.kernel.ValueType.TheVariants.{Int as i32, 
 use Rattle.kernel_tree.specs.Modules.{text_module, function, body, parameter, instruction, end_of_block as text_end, type_of}
 use Rattle.to_spirv.specs.declared.types.TypesNeeded.{TypesNeeded}
 use Rattle.to_spirv.specs.declared.types.TypesNeeded.TheVariants.{Neither, ResultInt, ParamInt, ParamPointer}
-use Rattle.to_spirv.specs.TypeTrees.{TypeRow, places_in, place_in}
+use Rattle.to_spirv.specs.declared.ids.Ids.{Ids}
+use Rattle.to_spirv.specs.TypeTrees.{TypeRow, TypeTree, places_in, place_in}
 use Rattle.to_spirv.specs.KernelTypes.{row_of_params, tree_of}
 use Rattle.to_spirv.specs.ClosedTypes.{listed_by, ids_by, needed_by, needed_where, has_value, takes_pointer, is_pointer}
 use Rattle.to_spirv.specs.Laws.{IsAligned}
 use Rattle.to_spirv.specs.Pairing.{HasType, PairsInt, PairsPointer, PairsType, PairsInst, PairsBody, PairsParam, HasSignature, PairsFunction, Pairs}
-use Rattle.to_spirv.specs.Partner.{named_types, type_name, value_type_id, param_id, inst_partner, end_of_block, param_partner, function_partner, body_partner, module_over, partner}
-use Rattle.to_spirv.proofs.TypeLemmas.{partner-needed}
+use Rattle.to_spirv.specs.Partner.{kernel_ids, named_types, type_name, value_type_id, param_id, inst_partner, end_of_block, param_partner, function_partner, body_partner, module_over, partner}
+use Rattle.to_spirv.proofs.TypeLemmas.{kernel_ids-closed, partner-needed, types-closed}
 
 -- lists that are made of one list correspond
 zip-maps : {X A B : Type 0} (R : A → B → Type 0) (f : X → A) (g : X → B) (xs : List X) → All (λ x. R (f x) (g x)) xs → AllZip R (map f xs) (map g xs)
@@ -133,7 +134,7 @@ signature-has needed kernel listed =
     }
 
 -- instructions
-abbrev HasValueType : TypesNeeded → KernelInst → Type 0
+abbrev pub HasValueType : TypesNeeded → KernelInst → Type 0
 HasValueType needed inst = has_value inst ≡ true → is_listed needed i32 ≡ true
 
 inst-pairs : (needed : TypesNeeded) (row : TypeRow) (inst : KernelInst) → HasValueType needed inst → IsAligned inst
@@ -234,7 +235,7 @@ some-value (inst ∷ insts) =
     further true is = refl
     further false is = is
 
-values-listed : (params : List KernelParam) (insts : List KernelInst) → All (HasValueType (needed_by params insts)) insts
+pub values-listed : (params : List KernelParam) (insts : List KernelInst) → All (HasValueType (needed_by params insts)) insts
 values-listed params insts =
     All-weaker (λ inst. has_value inst ≡ true → list_any has_value insts ≡ true) (HasValueType (needed_by params insts))
     (λ inst some has. subst (λ (b : Bool). is_listed (needed_where (list_any takes_pointer params) params b) i32 ≡ true) (sym (some has)) (int-listed (list_any takes_pointer params) params))
@@ -299,3 +300,33 @@ pairs kernel first aligned =
     let needed = needed_by kernel.params kernel.insts in
     subst (λ (spv : SpvModule). Pairs (text_module kernel) spv) (partner-needed kernel needed (ids_by needed) refl refl)
     (module-pairs needed kernel (params-listed kernel.params kernel.insts) (values-listed kernel.params kernel.insts) first aligned)
+
+-- the entries of the types that values have
+abbrev pub TypeFacts : NamedTypes → ℕ → ℕ → ValueType → Type 0
+TypeFacts types int pointer i32 = HasType types int (ty.Int W32)
+TypeFacts types int pointer i32_pointer =
+    HasType types int (ty.Int W32) × HasType types pointer (ty.Pointer Global (record { 0 = 1 })) × (id_at types.names (record { 0 = 1 }) ≡ int)
+
+int-held : (needed : TypesNeeded) (row : TypeRow) → is_listed needed i32 ≡ true → HasType (types_in needed row) (ids_by needed).int (ty.Int W32)
+int-held Neither row listed = absurd (false≢true listed)
+int-held ResultInt row listed = record { place = 2; name = type_name 3; named = refl; has_id = refl; held = refl }
+int-held ParamInt row listed = record { place = 1; name = type_name 2; named = refl; has_id = refl; held = refl }
+int-held ParamPointer row listed = record { place = 1; name = type_name 2; named = refl; has_id = refl; held = refl }
+
+facts-in : (needed : TypesNeeded) (row : TypeRow) (t : ValueType) → is_listed needed t ≡ true
+    → TypeFacts (types_in needed row) (ids_by needed).int (ids_by needed).pointer t
+facts-in needed row i32 listed = int-held needed row listed
+facts-in Neither row i32_pointer listed = absurd (false≢true listed)
+facts-in ResultInt row i32_pointer listed = absurd (false≢true listed)
+facts-in ParamInt row i32_pointer listed = absurd (false≢true listed)
+facts-in ParamPointer row i32_pointer listed =
+    (int-held ParamPointer row refl, record { place = 2; name = type_name 3; named = refl; has_id = refl; held = refl }, refl)
+
+pub type-facts : (kernel : Kernel) (t : ValueType) → is_listed (needed_by kernel.params kernel.insts) t ≡ true
+    → TypeFacts (partner kernel).types (kernel_ids kernel).int (kernel_ids kernel).pointer t
+type-facts kernel t listed =
+    let needed = needed_by kernel.params kernel.insts in
+    let row = row_of_params kernel.params in
+    let ids = sym (kernel_ids-closed kernel) in
+    subst (λ (trees : List TypeTree). TypeFacts (named_types trees) (kernel_ids kernel).int (kernel_ids kernel).pointer t) (sym (types-closed kernel))
+    (subst (λ (i : Ids). TypeFacts (types_in needed row) i.int i.pointer t) ids (facts-in needed row t listed))

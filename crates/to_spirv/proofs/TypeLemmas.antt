@@ -1,11 +1,14 @@
 -- The walk over the types of a kernel's module gives the closed list.
 use Rattle.std.proofs.Common.{◌≡◌, Bool, true, false, List, [], ◌∷◌, ◌++◌, map, length, refl, sym, ◌∙◌, ap, subst, arith}
-use Rattle.std.specs.Prelude.{if◌then◌else◌, ◌||◌, ◌<◌, flat_map, All}
+use Rattle.std.specs.Prelude.{if◌then◌else◌, ◌||◌, ◌<◌, ℕ, suc, zero, flat_map, slice_get, All, Some, None}
 use Rattle.std.specs.List.{list_any}
 use Rattle.std.proofs.lemmas.List.Elements.{All-nil, All-cons}
+use Rattle.kern_lanes.specs.declared.width.Width.TheVariants.{W32}
 use Rattle.kern_types.specs.Parts.{HasPartsIn, IsAmongFirst}
+use Rattle.kern_types.specs.declared.class.Class.TheVariants.{Global}
 use Rattle.kern_types.specs.declared.ty.Ty.{Ty}
 use Rattle.kern_types.specs.declared.ty.Ty.TheVariants as ty
+use Rattle.kern_types.specs.declared.ty.TyId.{TyId}
 use Rattle.kernel_tree.specs.declared.kernel.Kernel.{Kernel}
 use Rattle.kernel_tree.specs.declared.kernel.KernelInst.{KernelInst}
 use Rattle.kernel_tree.specs.declared.kernel.KernelInst.TheVariants.{Add, Load, Store}
@@ -215,3 +218,45 @@ parts-needed kernel needed ids needed_is ids_are =
     let same : ids ≡ ids_by (needed_by kernel.params kernel.insts) = ids_are ∙ ap ids_by needed_is in
     subst (λ (n : TypesNeeded). HasPartsIn (length (front_of n)) (function_entry ids kernel.params)) (sym needed_is)
     (subst (λ (i : Ids). HasPartsIn (length (front_of (needed_by kernel.params kernel.insts))) (function_entry i kernel.params)) (sym same) (parts-first kernel.params kernel.insts))
+
+-- each type of a module stands behind its parts
+some-same : {A : Type 0} (x y : A) → Some x ≡ Some y → x ≡ y
+some-same x y e = cc
+
+none-some : {A : Type 0} (x : A) → None ≡ Some x → ⊥
+none-some x e = cc
+
+held-parts : (place : ℕ) (held entry : Ty) → Some held ≡ Some entry → HasPartsIn place held → HasPartsIn place entry
+held-parts place held entry same parts = subst (HasPartsIn place) (some-same held entry same) parts
+
+listed-before : (needed : TypesNeeded) (params : List KernelParam) → HasPartsIn (length (front_of needed)) (function_entry (ids_by needed) params)
+    → (place : ℕ) (entry : Ty) → slice_get (named_types (listed_by needed (row_of_params params))).table.types place ≡ Some entry → HasPartsIn place entry
+listed-before needed params parts place entry held = by_needed needed parts.0 (subst (λ (places : List TyId). All (IsAmongFirst (length (front_of needed))) places) (sym (places-closed needed row params)) parts.1) place held
+  where
+    row : TypeRow
+    row = row_of_params params
+
+    by_needed : (n : TypesNeeded) → 0 < length (front_of n) → All (IsAmongFirst (length (front_of n))) (places_in (listed_by n row) row)
+        → (p : ℕ) → slice_get (named_types (listed_by n row)).table.types p ≡ Some entry → HasPartsIn p entry
+    by_needed Neither first behind zero is = held-parts 0 ty.Void entry is tt
+    by_needed Neither first behind (suc zero) is = held-parts 1 (ty.Function (record { 0 = 0 }) (places_in (listed_by Neither row) row)) entry is (first, behind)
+    by_needed Neither first behind (suc (suc p)) is = absurd (none-some entry is)
+    by_needed ResultInt first behind zero is = held-parts 0 ty.Void entry is tt
+    by_needed ResultInt first behind (suc zero) is = held-parts 1 (ty.Function (record { 0 = 0 }) (places_in (listed_by ResultInt row) row)) entry is (first, behind)
+    by_needed ResultInt first behind (suc (suc zero)) is = held-parts 2 (ty.Int W32) entry is tt
+    by_needed ResultInt first behind (suc (suc (suc p))) is = absurd (none-some entry is)
+    by_needed ParamInt first behind zero is = held-parts 0 ty.Void entry is tt
+    by_needed ParamInt first behind (suc zero) is = held-parts 1 (ty.Int W32) entry is tt
+    by_needed ParamInt first behind (suc (suc zero)) is = held-parts 2 (ty.Function (record { 0 = 0 }) (places_in (listed_by ParamInt row) row)) entry is (first, behind)
+    by_needed ParamInt first behind (suc (suc (suc p))) is = absurd (none-some entry is)
+    by_needed ParamPointer first behind zero is = held-parts 0 ty.Void entry is tt
+    by_needed ParamPointer first behind (suc zero) is = held-parts 1 (ty.Int W32) entry is tt
+    by_needed ParamPointer first behind (suc (suc zero)) is = held-parts 2 (ty.Pointer Global (record { 0 = 1 })) entry is (omega arith)
+    by_needed ParamPointer first behind (suc (suc (suc zero))) is = held-parts 3 (ty.Function (record { 0 = 0 }) (places_in (listed_by ParamPointer row) row)) entry is (first, behind)
+    by_needed ParamPointer first behind (suc (suc (suc (suc p)))) is = absurd (none-some entry is)
+
+pub types-before : (kernel : Kernel) (place : ℕ) (entry : Ty) → slice_get (named_types (types_of kernel)).table.types place ≡ Some entry → HasPartsIn place entry
+types-before kernel place entry held =
+    let needed = needed_by kernel.params kernel.insts in
+    listed-before needed kernel.params (parts-first kernel.params kernel.insts) place entry
+    (subst (λ (listed : List TypeTree). slice_get (named_types listed).table.types place ≡ Some entry) (types-closed kernel) held)

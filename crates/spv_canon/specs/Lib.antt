@@ -1,0 +1,5 @@
+pub mod Canonical
+pub mod Laws
+pub mod Sound
+pub mod Trees
+pub mod Valid
