@@ -1,5 +1,5 @@
 -- What is refused is too long, or something in it is due to be refused, and what is answered is neither.
-use Rattle.std.proofs.Common.{◌≡◌, ℕ, ◌<◌, ◌≤◌, inl, inr, List, ◌++◌, length, sym, ◌∙◌, ap, subst, append-nil, length-append, arith}
+use Rattle.std.proofs.Common.{◌≡◌, ℕ, ◌≤◌, inl, inr, List, ◌++◌, length, sym, ◌∙◌, ap, subst, append-nil, length-append, arith}
 use Rattle.std.specs.Prelude.{Option, Some, None}
 use Rattle.ports.specs.Streams.{GivesSome, GivesCount}
 use Rattle.kt_driver.specs.declared.refusals.Refusal.{Refusal}
@@ -9,7 +9,8 @@ use Rattle.kt_driver.specs.declared.request.Format.{Format}
 use Rattle.kt_driver.specs.declared.request.Format.TheVariants.{Llvm, Spirv}
 use Rattle.kt_driver.specs.declared.request.Request.TheVariants.{Translate, Show}
 use Rattle.kt_driver.specs.Runs.{IsAnswer, IsDue, IsFree, IsListed, IsRefusedFor, IsUnlisted, ReadsAnswered, ReadsFor, ReadsRefused, ReadsWhole}
-use Rattle.kt_driver.proofs.Sources.{not-stuck, translation-not-refused}
+use Rattle.kernel_translation.proofs.Sources.{not-stuck}
+use Rattle.kt_driver.proofs.Refused.{text-not-refused, translation-not-refused}
 use Rattle.spv_codec.proofs.FramingLaws.{module-or_fault}
 
 -- more was given than there is
@@ -39,7 +40,7 @@ pub free-not_refused : (request : Request) (refusal : Refusal) (input : List ℕ
     → IsFree (Some request) input → ReadsFor request refusal old new → ⊥
 free-not_refused request (TooLong format) input old new is free reads = too-many input old new is free.0 reads.1
 free-not_refused request (UndefinedName byte) input old new is free reads = refused-due request (UndefinedName byte) input old new is free.1 reads
-free-not_refused request Outside input old new is free reads = refused-due request Outside input old new is free.1 reads
+free-not_refused request (Outside format) input old new is free reads = refused-due request (Outside format) input old new is free.1 reads
 free-not_refused request (Unreadable fault) input old new is free reads = refused-due request (Unreadable fault) input old new is free.1 reads
 free-not_refused request (Misframed fault) input old new is free reads = refused-due request (Misframed fault) input old new is free.1 reads
 
@@ -47,14 +48,14 @@ free-not_refused request (Misframed fault) input old new is free reads = refused
 pub GivesSome-ReadsFor : (request : Request) (refusal : Refusal) (old new : Option (List ℕ)) → ReadsFor request refusal old new → GivesSome old new
 GivesSome-ReadsFor request (TooLong format) old new reads = record { given = reads.1.given; gives = reads.1.gives }
 GivesSome-ReadsFor request (UndefinedName byte) old new reads = record { given = reads.input; gives = reads.reads.gives }
-GivesSome-ReadsFor request Outside old new reads = record { given = reads.input; gives = reads.reads.gives }
+GivesSome-ReadsFor request (Outside format) old new reads = record { given = reads.input; gives = reads.reads.gives }
 GivesSome-ReadsFor request (Unreadable fault) old new reads = record { given = reads.input; gives = reads.reads.gives }
 GivesSome-ReadsFor request (Misframed fault) old new reads = record { given = reads.input; gives = reads.reads.gives }
 
 listed-not-refused : (format : Format) (input bytes : List ℕ) (refusal : Refusal) → IsListed format input bytes → IsUnlisted format input refusal → ⊥
 listed-not-refused format input bytes (TooLong other) is due = due
 listed-not-refused format input bytes (UndefinedName byte) is due = due
-listed-not-refused format input bytes Outside is due = due
+listed-not-refused format input bytes (Outside other) is due = due
 listed-not-refused Llvm input bytes (Unreadable fault) is due =
     elim due [ inl encoding ↦ encoding.no_text is.utf8 | inr token ↦ not-stuck input is.tokens fault.byte is.are_tokens token.2 ]
 listed-not-refused Spirv input bytes (Unreadable fault) is due = due
@@ -62,7 +63,8 @@ listed-not-refused Llvm input bytes (Misframed fault) is due = due
 listed-not-refused Spirv input bytes (Misframed fault) is due = module-or_fault input is.raw fault is.spirv due
 
 answer-not-refused : (request : Request) (input bytes : List ℕ) (refusal : Refusal) → IsAnswer request input bytes → IsDue request input refusal → ⊥
-answer-not-refused (Translate from to order) input bytes refusal is due = translation-not-refused order input bytes refusal is due
+answer-not-refused (Translate Llvm to order) input bytes refusal is due = translation-not-refused order input bytes refusal is.there due
+answer-not-refused (Translate Spirv to order) input bytes refusal is due = text-not-refused input bytes refusal is.there due
 answer-not-refused (Show from) input bytes refusal is due = listed-not-refused from input bytes refusal is due
 
 -- nothing is refused in an input that is answered

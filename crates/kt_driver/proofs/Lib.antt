@@ -1,3 +1,3 @@
-pub mod Binaries
 mod Completeness
-mod Sources
+mod FirstBreaks
+mod Refused

@@ -12,11 +12,16 @@ abbrev pub too_long_fault : Format → Fault
 too_long_fault Llvm = Text (record { rule = 15; byte = 16777216 })
 too_long_fault Spirv = Binary (record { rule = 15; word = 4194304 })
 
+-- an input outside the covered subset is refused at its first byte or word
+abbrev pub outside_fault : Format → Fault
+outside_fault Llvm = Text (record { rule = 90; byte = 0 })
+outside_fault Spirv = Binary (record { rule = 90; word = 0 })
+
 -- the rule and the place of a refusal
 abbrev pub fault_of : Refusal → Fault
 fault_of (TooLong format) = too_long_fault format
 fault_of (UndefinedName byte) = Text (record { rule = 20; byte = byte })
-fault_of Outside = Text (record { rule = 90; byte = 0 })
+fault_of (Outside format) = outside_fault format
 fault_of (Unreadable fault) = Text fault
 fault_of (Misframed fault) = Binary fault
 

@@ -7,7 +7,8 @@ use Rattle.spv_words.specs.declared.words.Order.{Order}
 use Rattle.spv_codec.specs.Framing.{IsFramingFault}
 use Rattle.kt_driver.specs.BinaryListings.{IsBinaryListing}
 use Rattle.kt_driver.specs.Listings.{IsListing, IsListingFault}
-use Rattle.kt_driver.specs.Translations.{IsOutside, IsTranslation, IsUndefinedIn}
+use Rattle.kernel_translation.specs.Translations.{IsOutside, IsUndefinedIn}
+use Rattle.kernel_translation.specs.TextTranslations.{IsOutsideBinary, IsTextTranslationAndBack, IsTranslationAndBack}
 use Rattle.kt_driver.specs.Requests.{input_format}
 use Rattle.kt_driver.specs.Refusals.{refusal_line}
 use Rattle.kt_driver.specs.declared.refusals.Refusal.{Refusal}
@@ -32,22 +33,33 @@ IsListed Spirv input bytes = IsBinaryListing input bytes
 
 -- the bytes that answer a request on an input
 abbrev pub IsAnswer : Request → List ℕ → List ℕ → Type 0
-IsAnswer (Translate from to order) input bytes = IsTranslation order input bytes
+IsAnswer (Translate Llvm to order) input bytes = IsTranslationAndBack order input bytes
+IsAnswer (Translate Spirv to order) input bytes = IsTextTranslationAndBack input bytes
 IsAnswer (Show from) input bytes = IsListed from input bytes
 
 -- the refusals that a translation into this order may meet in a text that is not too long
 abbrev pub IsUntranslatable : Order → List ℕ → Refusal → Type 0
 IsUntranslatable order input (TooLong format) = ⊥
 IsUntranslatable order input (UndefinedName byte) = IsUndefinedIn input byte
-IsUntranslatable order input Outside = IsOutside order input
+IsUntranslatable order input (Outside Llvm) = IsOutside order input
+IsUntranslatable order input (Outside Spirv) = ⊥
 IsUntranslatable order input (Unreadable fault) = ⊥
 IsUntranslatable order input (Misframed fault) = ⊥
+
+-- the refusals that the translation of a binary may meet in one that is not too long
+abbrev pub IsUntranslatableBinary : List ℕ → Refusal → Type 0
+IsUntranslatableBinary input (TooLong format) = ⊥
+IsUntranslatableBinary input (UndefinedName byte) = ⊥
+IsUntranslatableBinary input (Outside Llvm) = ⊥
+IsUntranslatableBinary input (Outside Spirv) = IsOutsideBinary input
+IsUntranslatableBinary input (Unreadable fault) = ⊥
+IsUntranslatableBinary input (Misframed fault) = IsFramingFault input fault
 
 -- the refusals that a listing may meet in an input of this format that is not too long
 abbrev pub IsUnlisted : Format → List ℕ → Refusal → Type 0
 IsUnlisted format input (TooLong other) = ⊥
 IsUnlisted format input (UndefinedName byte) = ⊥
-IsUnlisted format input Outside = ⊥
+IsUnlisted format input (Outside other) = ⊥
 IsUnlisted Llvm input (Unreadable fault) = IsListingFault input fault
 IsUnlisted Spirv input (Unreadable fault) = ⊥
 IsUnlisted Llvm input (Misframed fault) = ⊥
@@ -55,7 +67,8 @@ IsUnlisted Spirv input (Misframed fault) = IsFramingFault input fault
 
 -- the refusals that a request may meet in an input that is not too long
 abbrev pub IsDue : Request → List ℕ → Refusal → Type 0
-IsDue (Translate from to order) input refusal = IsUntranslatable order input refusal
+IsDue (Translate Llvm to order) input refusal = IsUntranslatable order input refusal
+IsDue (Translate Spirv to order) input refusal = IsUntranslatableBinary input refusal
 IsDue (Show from) input refusal = IsUnlisted from input refusal
 
 -- the source was read to its end, and gave this input, of no more bytes than an input may have
@@ -74,7 +87,7 @@ pub record ReadsRefused (request : Request) (refusal : Refusal) (old new : Optio
 abbrev pub ReadsFor : Request → Refusal → Option (List ℕ) → Option (List ℕ) → Type 0
 ReadsFor request (TooLong format) old new = (format ≡ input_format request) × GivesCount 16777217 old new
 ReadsFor request (UndefinedName byte) old new = ReadsRefused request (UndefinedName byte) old new
-ReadsFor request Outside old new = ReadsRefused request Outside old new
+ReadsFor request (Outside format) old new = ReadsRefused request (Outside format) old new
 ReadsFor request (Unreadable fault) old new = ReadsRefused request (Unreadable fault) old new
 ReadsFor request (Misframed fault) old new = ReadsRefused request (Misframed fault) old new
 

@@ -4,8 +4,9 @@ ghost use Rattle.spv_layout.specs.Forms.{name_at};
 ghost use Rattle.kt_driver.specs.BinaryListings.{IsBinaryListing, binary_lines, order_line, header_line, inst_line, words_text, word_text};
 
 use kern_events::hex_text;
+use kernel_translation::module_of;
 use ports::{OutOfMemory, SpvError};
-use spv_codec::{RawInst, RawModule, SpvDecoder};
+use spv_codec::{RawInst, RawModule};
 use spv_layout::name_of;
 use spv_words::Order;
 use std::alloc::Global;
@@ -19,9 +20,7 @@ pub fn binary_listing(alloc: Global, input: &[u8]) -> Result<String, SpvError>
     ensures lines { IfOk result (λ lines. IsBinaryListing input.now (string_bytes lines)) }
     ensures fault { IfErr result (IsFramingError input.now) }
 {
-    let mut decoder = SpvDecoder::new(alloc);
-    decoder.feed(input)?;
-    let raw = decoder.finish()?;
+    let raw = module_of(alloc, input)?;
     Ok(raw_lines(alloc, &raw)?)
 }
 

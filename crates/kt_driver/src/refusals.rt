@@ -1,11 +1,9 @@
 ghost use Rattle.std.specs.Prelude.{◌≡◌, IfOk, string_bytes};
-ghost use Rattle.kt_driver.specs.Refusals.{fault_of, fault_line, refusal_line, too_long_fault};
+ghost use Rattle.kt_driver.specs.Refusals.{fault_of, fault_line, outside_fault, refusal_line, too_long_fault};
 
 use crate::request::Format;
 use ports::{LlFault, OutOfMemory, SpvFault};
-use std::alloc::{AllocError, AllocFailed, Global};
-use std::error::Error;
-use std::fmt;
+use std::alloc::Global;
 
 /// Why an input is refused.
 #[derive(Clone, Copy, Debug, PartialEq, Eq, Hash)]
@@ -14,8 +12,8 @@ pub enum Refusal {
     TooLong(Format),
     /// The name at this byte is used and defined nowhere.
     UndefinedName { byte: u64 },
-    /// The text is outside the covered subset in another way.
-    Outside,
+    /// The input, which has this format, is outside the covered subset in another way.
+    Outside(Format),
     /// The text can't be cut into tokens.
     Unreadable(LlFault),
     /// The bytes break a rule of a binary's framing.
@@ -39,7 +37,7 @@ impl Refusal {
         match self {
             Refusal::TooLong(format) => too_long(format),
             Refusal::UndefinedName { byte } => Fault::Text(LlFault { rule: 20, byte }),
-            Refusal::Outside => Fault::Text(LlFault { rule: 90, byte: 0 }),
+            Refusal::Outside(format) => outside(format),
             Refusal::Unreadable(fault) => Fault::Text(fault),
             Refusal::Misframed(fault) => Fault::Binary(fault),
         }
@@ -69,6 +67,16 @@ fn too_long(format: Format) -> Fault
     }
 }
 
+/// The fault of an input that is outside the covered subset.
+fn outside(format: Format) -> Fault
+    ensures { result ≡ outside_fault format }
+{
+    match format {
+        Format::Llvm => Fault::Text(LlFault { rule: 90, byte: 0 }),
+        Format::Spirv => Fault::Binary(SpvFault { rule: 90, word: 0 }),
+    }
+}
+
 impl Fault {
     /// The line that tells it, with its line feed.
     fn line(self, alloc: Global) -> Result<String, OutOfMemory>
@@ -93,59 +101,4 @@ fn binary_line(alloc: Global, fault: SpvFault) -> Result<String, OutOfMemory>
 {
     let SpvFault { rule, word } = fault;
     Ok(format!(in alloc; "refused: rule S{rule} at word {word}\n")?)
-}
-
-/// Why a text has no translation.
-#[derive(Clone, Copy, Debug, PartialEq, Eq, Hash)]
-pub enum TranslateError {
-    NoMemory,
-    /// The name at this byte is used and defined nowhere.
-    UndefinedName { byte: u64 },
-    /// The text is outside the covered subset in another way.
-    Outside,
-}
-
-impl fmt::Display for TranslateError {
-    fn fmt<W: fmt::Write>(&self, f: &mut fmt::Formatter<W>) -> fmt::Result {
-        f.write_str(match self {
-            TranslateError::NoMemory => "out of memory",
-            TranslateError::UndefinedName { .. } => "a name is defined nowhere",
-            TranslateError::Outside => "the text is outside the covered subset",
-        })
-    }
-}
-
-impl Error for TranslateError {}
-
-impl From<OutOfMemory> for TranslateError {
-    ghost use Rattle.std.specs.Prelude.{◌≡◌};
-    ghost use Rattle.kt_driver.specs.declared.refusals.TranslateError.TheVariants.{NoMemory};
-
-    ghost from_gives = { λ _ told. told ≡ NoMemory };
-
-    fn from(_refused: OutOfMemory) -> TranslateError {
-        TranslateError::NoMemory
-    }
-}
-
-impl From<AllocError> for TranslateError {
-    ghost use Rattle.std.specs.Prelude.{◌≡◌};
-    ghost use Rattle.kt_driver.specs.declared.refusals.TranslateError.TheVariants.{NoMemory};
-
-    ghost from_gives = { λ _ told. told ≡ NoMemory };
-
-    fn from(_refused: AllocError) -> TranslateError {
-        TranslateError::NoMemory
-    }
-}
-
-impl<T: Drop> From<AllocFailed<T>> for TranslateError {
-    ghost use Rattle.std.specs.Prelude.{◌≡◌};
-    ghost use Rattle.kt_driver.specs.declared.refusals.TranslateError.TheVariants.{NoMemory};
-
-    ghost from_gives = { λ _ told. told ≡ NoMemory };
-
-    fn from(_refused: AllocFailed<T>) -> TranslateError {
-        TranslateError::NoMemory
-    }
 }

@@ -1,11 +1,11 @@
-ghost use Rattle.std.specs.Prelude.{◌<◌, ◌^◌, length};
+ghost use Rattle.std.specs.Prelude.{◌<◌, ◌≤◌, ◌^◌, length};
 ghost use Rattle.kt_driver.specs.Runs.{IsRefusal, IsReply, Replies, ReplyHasCause};
 
 use crate::binary_listing::binary_listing;
 use crate::listing::listing;
-use crate::refusals::{Refusal, TranslateError};
+use crate::refusals::Refusal;
 use crate::request::{Format, Request};
-use crate::translation::{MAX_BYTES, translate};
+use kernel_translation::{BinaryError, MAX_BYTES, TranslateError, translate, translate_binary};
 use ports::{LlError, ReadAllError, Source, SpvError, read_all};
 use spv_words::Order;
 use std::alloc::Global;
@@ -45,11 +45,19 @@ pub fn reply_to<S: Source>(
 
 /// The reply to a request on the whole input.
 fn reply_on(alloc: Global, request: Request, input: &[u8]) -> Result<Reply, ReplyError>
-    requires { length input.now < 2 ^ 63 }
+    requires { length input.now ≤ 16777216 }
     ensures { IsReply request input.now result }
 {
     match request {
-        Request::Translate { order, .. } => translated(alloc, input, order),
+        Request::Translate {
+            from: Format::Llvm,
+            order,
+            ..
+        } => translated(alloc, input, order),
+        Request::Translate {
+            from: Format::Spirv,
+            ..
+        } => text_translated(alloc, input),
         Request::Show { from: Format::Llvm } => listed(alloc, input),
         Request::Show {
             from: Format::Spirv,
@@ -57,7 +65,7 @@ fn reply_on(alloc: Global, request: Request, input: &[u8]) -> Result<Reply, Repl
     }
 }
 
-/// The reply to a translation.
+/// The reply to the translation of a text.
 fn translated(alloc: Global, input: &[u8], order: Order) -> Result<Reply, ReplyError>
     ensures { IsReply (Request.Translate Format.Llvm Format.Spirv order) input.now result }
 {
@@ -66,8 +74,21 @@ fn translated(alloc: Global, input: &[u8], order: Order) -> Result<Reply, ReplyE
         Err(TranslateError::UndefinedName { byte }) => {
             refuse(alloc, Refusal::UndefinedName { byte })
         }
-        Err(TranslateError::Outside) => refuse(alloc, Refusal::Outside),
+        Err(TranslateError::Outside) => refuse(alloc, Refusal::Outside(Format::Llvm)),
         Err(TranslateError::NoMemory) => Err(ReplyError::NoMemory),
+    }
+}
+
+/// The reply to the translation of a binary.
+fn text_translated(alloc: Global, input: &[u8]) -> Result<Reply, ReplyError>
+    requires { length input.now ≤ 16777216 }
+    ensures { IsReply (Request.Translate Format.Spirv Format.Llvm Order.Little) input.now result }
+{
+    match translate_binary(alloc, input) {
+        Ok(text) => Ok(Reply::Answer(text)),
+        Err(BinaryError::Misframed(fault)) => refuse(alloc, Refusal::Misframed(fault)),
+        Err(BinaryError::Outside) => refuse(alloc, Refusal::Outside(Format::Spirv)),
+        Err(BinaryError::NoMemory) => Err(ReplyError::NoMemory),
     }
 }
 

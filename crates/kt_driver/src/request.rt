@@ -1,6 +1,6 @@
 ghost use Rattle.std.specs.Prelude.{◌≡◌, string_bytes};
 ghost use Rattle.std.specs.Option.{option_map};
-ghost use Rattle.kt_driver.specs.Requests.{request_of, texts_of, format_named, order_named, is_translation, translation_in, input_format};
+ghost use Rattle.kt_driver.specs.Requests.{request_of, texts_of, format_named, order_named, is_translation, translation_between, translation_to, input_format};
 
 use spv_words::Order;
 
@@ -47,38 +47,44 @@ pub fn read_request(words: &[String]) -> Option<Request>
         [command, from, source] if command.as_str() == "show" && from.as_str() == "--from" => {
             show(source.as_str())
         }
-        [command, from, source, to, target] if is_translation(command, from, source, to, target) =>
-            {
-                Some(Request::Translate {
-                    from: Format::Llvm,
-                    to: Format::Spirv,
-                    order: Order::Little,
-                })
-            }
+        [command, from, source, to, target] if is_translation(command, from, to) => {
+            translation_between(source.as_str(), target.as_str(), Order::Little)
+        }
         [command, from, source, to, target, order, value]
-            if is_translation(command, from, source, to, target) && order.as_str() == "--order" => {
-            translation_in(value.as_str())
+            if is_translation(command, from, to) && order.as_str() == "--order" => {
+            let order = order_named(value.as_str())?;
+            translation_between(source.as_str(), target.as_str(), order)
         }
         _ => None,
     }
 }
 
-/// Whether the words are those of a translation from text to a binary.
-fn is_translation(
-    command: &String,
-    from: &String,
-    source: &String,
-    to: &String,
-    target: &String,
-) -> bool
-    ensures { result ≡ is_translation (string_bytes command.now) (string_bytes from.now) (string_bytes source.now)
-        (string_bytes to.now) (string_bytes target.now) }
+/// Whether the words are those of a translation, the names of its formats aside.
+fn is_translation(command: &String, from: &String, to: &String) -> bool
+    ensures { result ≡ is_translation (string_bytes command.now) (string_bytes from.now) (string_bytes to.now) }
 {
-    command.as_str() == "translate"
-        && from.as_str() == "--from"
-        && source.as_str() == "llvm"
-        && to.as_str() == "--to"
-        && target.as_str() == "spirv"
+    command.as_str() == "translate" && from.as_str() == "--from" && to.as_str() == "--to"
+}
+
+/// The request for a translation between the formats of these names, which differ.
+fn translation_between(source: &str, target: &str, order: Order) -> Option<Request>
+    ensures { result ≡ translation_between source.now target.now order }
+{
+    let from = format_named(source)?;
+    let to = format_named(target)?;
+    translation_to(order, from, to)
+}
+
+/// The request for a translation from a format to another one.
+fn translation_to(order: Order, from: Format, to: Format) -> Option<Request>
+    ensures { result ≡ translation_to order from to }
+{
+    match (from, to) {
+        (Format::Llvm, Format::Spirv) | (Format::Spirv, Format::Llvm) => {
+            Some(Request::Translate { from, to, order })
+        }
+        _ => None,
+    }
 }
 
 /// The request to list an input of the format with this name.
@@ -87,18 +93,6 @@ fn show(word: &str) -> Option<Request>
 {
     let from = format_named(word)?;
     Some(Request::Show { from })
-}
-
-/// The request for a translation in the byte order with this name.
-fn translation_in(word: &str) -> Option<Request>
-    ensures { result ≡ translation_in word.now }
-{
-    let order = order_named(word)?;
-    Some(Request::Translate {
-        from: Format::Llvm,
-        to: Format::Spirv,
-        order,
-    })
 }
 
 fn format_named(word: &str) -> Option<Format>

@@ -1,4 +1,4 @@
 mod CanonicalMade
-mod NumberedAgain
+pub mod NumberedAgain
 pub mod NumberedForms
 pub mod SameForms

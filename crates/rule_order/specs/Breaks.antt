@@ -1,5 +1,6 @@
 -- Which broken rule of an input is told.
 use Rattle.std.specs.Prelude.{◌≡◌, ℕ, ◌==◌, nat_lt, min, Bool, ◌&&◌, ◌||◌, if◌then◌else◌, List, [], ◌∷◌, map, Option, Some, None, All, Any, Contains, false}
+use Rattle.std.specs.Option.{option_or}
 use Rattle.rule_order.specs.declared.breaks.Break.{Break}
 use Rattle.rule_order.specs.declared.breaks.FirstPlace.{FirstPlace}
 
@@ -52,3 +53,8 @@ first_refusal rules = first_of (map first_place rules)
 pub record IsFirst (rules : List RulePlaces) (told : Break) : Type 0 where
   pub broken : Any (λ r. (r.rule ≡ told.rule) × Contains r.places told.place) rules
   pub first : All (λ r. All (λ place. is_before (record { rule = r.rule; place = place }) told ≡ false) r.places) rules
+
+-- the break that is told of groups of rules: that of the first group in which a rule is broken
+abbrev pub first_in_groups : List (List RulePlaces) → Option Break
+first_in_groups [] = None
+first_in_groups (group ∷ groups) = option_or (first_refusal group) (first_in_groups groups)

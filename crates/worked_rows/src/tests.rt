@@ -3,6 +3,7 @@ mod commands;
 mod first_kernel;
 mod listings;
 mod streams;
+mod way_back;
 mod words;
 
 use kt_driver::{Status, run};

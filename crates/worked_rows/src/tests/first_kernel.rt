@@ -4,7 +4,7 @@ use std::alloc::Global;
 use std::test::Fail;
 
 /// The words of the module of a kernel that only returns.
-const RETURNS: [u32; 30] = [
+pub(super) const RETURNS: [u32; 30] = [
     0x0723_0203,
     0x0001_0200,
     0,
@@ -38,7 +38,7 @@ const RETURNS: [u32; 30] = [
 ];
 
 /// The words of the module of a kernel that adds its second argument to where its first one points.
-const ADDS: [u32; 62] = [
+pub(super) const ADDS: [u32; 62] = [
     0x0723_0203,
     0x0001_0200,
     0,

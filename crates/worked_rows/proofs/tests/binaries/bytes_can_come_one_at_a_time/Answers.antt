@@ -1,5 +1,5 @@
 use Rattle.std.proofs.Common.{[]}
-use Rattle.kt_driver.proofs.Binaries.{AllFit-short}
+use Rattle.worked_rows.proofs.Fits.{AllFit-short}
 use Rattle.worked_rows.proofs.tests.binaries.bytes_can_come_one_at_a_time.Goals as goal
 
 pub encode-requires : goal.encode-requires

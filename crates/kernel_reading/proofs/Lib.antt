@@ -1,0 +1,15 @@
+pub mod BareForms
+pub mod CanonicalForms
+pub mod DigitFacts
+pub mod FormsCanonical
+pub mod InstReads
+pub mod KernelReads
+pub mod NameReads
+pub mod NumberNames
+pub mod OwnBytes
+pub mod OwnNames
+pub mod ParamReads
+pub mod PhraseReads
+pub mod PrintedKernels
+pub mod ReadAgain
+pub mod TextBytes

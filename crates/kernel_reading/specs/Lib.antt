@@ -1,0 +1,3 @@
+pub mod CanonicalKernels
+pub mod Examples
+pub mod Laws

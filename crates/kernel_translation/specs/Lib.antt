@@ -1,0 +1,2 @@
+pub mod TextTranslations
+pub mod Translations

@@ -1,0 +1,27 @@
+-- What has a translation is not refused.
+use Rattle.std.proofs.Common.{ℕ, List}
+use Rattle.spv_codec.proofs.FramingLaws.{module-or_fault}
+use Rattle.spv_words.specs.declared.words.Order.{Order}
+use Rattle.kernel_translation.specs.TextTranslations.{IsTextTranslation}
+use Rattle.kernel_translation.specs.Translations.{IsTranslation}
+use Rattle.kernel_translation.proofs.Sources.{not-undefined}
+use Rattle.kt_driver.specs.declared.refusals.Refusal.{Refusal}
+use Rattle.kt_driver.specs.declared.refusals.Refusal.TheVariants.{TooLong, UndefinedName, Outside, Unreadable, Misframed}
+use Rattle.kt_driver.specs.declared.request.Format.TheVariants.{Llvm, Spirv}
+use Rattle.kt_driver.specs.Runs.{IsUntranslatable, IsUntranslatableBinary}
+
+pub translation-not-refused : (order : Order) (input bytes : List ℕ) (refusal : Refusal) → IsTranslation order input bytes → IsUntranslatable order input refusal → ⊥
+translation-not-refused order input bytes (TooLong format) is due = due
+translation-not-refused order input bytes (UndefinedName byte) is due = not-undefined order input is.form byte is.translatable due
+translation-not-refused order input bytes (Outside Llvm) is due = due.untranslatable is.form is.translatable
+translation-not-refused order input bytes (Outside Spirv) is due = due
+translation-not-refused order input bytes (Unreadable fault) is due = due
+translation-not-refused order input bytes (Misframed fault) is due = due
+
+pub text-not-refused : (input bytes : List ℕ) (refusal : Refusal) → IsTextTranslation input bytes → IsUntranslatableBinary input refusal → ⊥
+text-not-refused input bytes (TooLong format) is due = due
+text-not-refused input bytes (UndefinedName byte) is due = due
+text-not-refused input bytes (Outside Llvm) is due = due
+text-not-refused input bytes (Outside Spirv) is due = due.none is.order is.form is.binary
+text-not-refused input bytes (Unreadable fault) is due = due
+text-not-refused input bytes (Misframed fault) is due = module-or_fault input is.framed.raw fault is.framed.spirv due
