@@ -122,7 +122,7 @@ module _ (kernel : Kernel) (m : SpvModule) (numbers : IsNumbered kernel) (own : 
   abbrev types : NamedTypes
   types = m.types
 
-  types-sound : HasSoundTypes types
+  pub types-sound : HasSoundTypes types
   types-sound = record { once = once-front (type_ids types) (ids_in_functions m) sound.once; named = sound.named; parts = sound.parts }
 
   -- there are as many labels as blocks
@@ -174,7 +174,7 @@ module _ (kernel : Kernel) (m : SpvModule) (numbers : IsNumbered kernel) (own : 
   abbrev count : ℕ
   count = definition_count kernel
 
-  ids-range : ids_in_functions m ≡ map f (range_with_len 0 (suc count))
+  pub ids-range : ids_in_functions m ≡ map f (range_with_len 0 (suc count))
   ids-range = ids-are ∙ ap (λ ns. map f (0 ∷ ns)) numbers.defined
 
   -- the types that are needed
@@ -197,7 +197,7 @@ module _ (kernel : Kernel) (m : SpvModule) (numbers : IsNumbered kernel) (own : 
     abbrev g : ℕ → ℕ
     g = new_id listed m
 
-    range-at : (start n limit : ℕ) → n < limit → slice_get (map f (range_with_len start limit)) n ≡ Some (f (start + n))
+    pub range-at : (start n limit : ℕ) → n < limit → slice_get (map f (range_with_len start limit)) n ≡ Some (f (start + n))
     range-at start n zero within = absurd (omega arith)
     range-at start zero (suc limit) within = let same : start ≡ start + 0 = omega arith in ap (λ k. Some (f k)) same
     range-at start (suc n) (suc limit) within =

@@ -101,7 +101,7 @@ module _ (types : NamedTypes) (sound : HasSoundTypes types) where
   abbrev trees : List TypeTree
   trees = trees_of types
 
-  id-there : (place : ℕ) (name : TypeName) (id : ℕ) → slice_get types.names place ≡ Some name → name.id ≡ id → slice_get (type_ids types) place ≡ Some id
+  pub id-there : (place : ℕ) (name : TypeName) (id : ℕ) → slice_get types.names place ≡ Some name → name.id ≡ id → slice_get (type_ids types) place ≡ Some id
   id-there place name id named is = slice_get-map id_of_type types.names place ∙ ap (option_map id_of_type) named ∙ ap Some is
 
   tree-there : (place : ℕ) (entry : Ty) → slice_get types.table.types place ≡ Some entry → slice_get trees place ≡ Some (tree_of_entry trees entry)
@@ -121,11 +121,11 @@ module _ (types : NamedTypes) (sound : HasSoundTypes types) where
       ap (λ (o : Option ℕ). unwrap_or (slice_get trees (unwrap_or o 0)) Void) (place-there id entry has)
       ∙ ap (λ (o : Option TypeTree). unwrap_or o Void) (tree-there has.place entry has.held)
 
-  -- the tree of a part of a type
-  tree-named : (to : TyId) (id : ℕ) (entry : Ty) → to.0 < length types.names → id_at types.names to ≡ id → HasType types id entry → tree_at trees to ≡ tree_of_entry trees entry
-  tree-named to id entry within is has = by (slice_get types.names to.0) refl
+  -- a type that is named by its id stands at the place of this id
+  pub named-place : (to : TyId) (id : ℕ) (entry : Ty) → to.0 < length types.names → id_at types.names to ≡ id → (has : HasType types id entry) → to.0 ≡ has.place
+  named-place to id entry within is has = by (slice_get types.names to.0) refl
     where
-      by : (o : Option TypeName) → slice_get types.names to.0 ≡ o → tree_at trees to ≡ tree_of_entry trees entry
+      by : (o : Option TypeName) → slice_get types.names to.0 ≡ o → to.0 ≡ has.place
       by None none =
           let default : TypeName = record { id = 0; length = None; place = 0 } in
           absurd (apart (sym none ∙ slice_get-get_or types.names to.0 default within))
@@ -134,9 +134,13 @@ module _ (types : NamedTypes) (sound : HasSoundTypes types) where
           apart e = cc
       by (Some name) some =
           let named : name.id ≡ id = sym (ap (λ (o : Option TypeName). unwrap_or (option_map (λ n. n.id) o) 0) some) ∙ is in
-          let same : to.0 ≡ has.place =
-          sound.once to.0 has.place id (id-there to.0 name id some named) (id-there has.place has.name id has.named has.has_id) in
-          ap (λ (p : ℕ). unwrap_or (slice_get trees p) Void) same ∙ ap (λ (o : Option TypeTree). unwrap_or o Void) (tree-there has.place entry has.held)
+          sound.once to.0 has.place id (id-there to.0 name id some named) (id-there has.place has.name id has.named has.has_id)
+
+  -- the tree of a part of a type
+  tree-named : (to : TyId) (id : ℕ) (entry : Ty) → to.0 < length types.names → id_at types.names to ≡ id → HasType types id entry → tree_at trees to ≡ tree_of_entry trees entry
+  tree-named to id entry within is has =
+      ap (λ (p : ℕ). unwrap_or (slice_get trees p) Void) (named-place to id entry within is has)
+      ∙ ap (λ (o : Option TypeTree). unwrap_or o Void) (tree-there has.place entry has.held)
 
   -- a type that makes a pair with one of values
   pub record IsTypeOf (t : ValueType) (id : ℕ) : Type 0 where
@@ -145,7 +149,7 @@ module _ (types : NamedTypes) (sound : HasSoundTypes types) where
     pub is : tree_of_entry trees entry ≡ tree_of t
 
   -- parts stand among the names
-  part-within : (id : ℕ) (entry : Ty) (has : HasType types id entry) (to : TyId) → to.0 < has.place → to.0 < length types.names
+  pub part-within : (id : ℕ) (entry : Ty) (has : HasType types id entry) (to : TyId) → to.0 < has.place → to.0 < length types.names
   part-within id entry has to before = let within = slice_get_within types.names has.place has.name has.named in omega arith
 
   pub type-is : (t : ValueType) (id : ℕ) → PairsType types (type_of t) id → IsTypeOf t id
