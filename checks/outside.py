@@ -2,6 +2,7 @@
 """Compares the program with tools from outside, each skipped where it is missing.
 
 - spirv-val accepts the translation of each example.
+- llvm-as-14 accepts the text that this translation is translated back to, and that text is translated to the same binary.
 - What clang-14 prints for OpenCL C kernels is cut into tokens wholly, and the listing has every byte of it but blanks and
   comments.
 
@@ -58,6 +59,23 @@ def check_validator(program):
     return failures
 
 
+def check_way_back(program):
+    if not shutil.which("llvm-as-14"):
+        print("llvm-as-14 is missing: skipped")
+        return 0
+    failures = 0
+    for example in sorted(glob.glob(os.path.join(HERE, "..", "examples", "*.ll"))):
+        with open(example, "rb") as file:
+            binary = run([program, "translate", "--from", "llvm", "--to", "spirv"], file.read())
+        text = run([program, "translate", "--from", "spirv", "--to", "llvm"], binary.stdout)
+        taken = run(["llvm-as-14", "-o", os.devnull, "-"], text.stdout)
+        again = run([program, "translate", "--from", "llvm", "--to", "spirv"], text.stdout)
+        passed = binary.stdout and text.returncode == 0 and taken.returncode == 0 and again.stdout == binary.stdout
+        failures += not passed
+        print(f"llvm-as-14 {os.path.basename(example)}: {'ok' if passed else taken.stderr.decode() or text.stderr.decode()}")
+    return failures
+
+
 def check_tokens(program):
     if not shutil.which("clang-14"):
         print("clang-14 is missing: skipped")
@@ -77,7 +95,7 @@ def check_tokens(program):
 def main():
     default = os.path.join(HERE, "..", "crates", "spirv_tool", "out", "spirv_tool")
     program = sys.argv[1] if len(sys.argv) > 1 else default
-    return 1 if check_validator(program) + check_tokens(program) else 0
+    return 1 if check_validator(program) + check_way_back(program) + check_tokens(program) else 0
 
 
 if __name__ == "__main__":
