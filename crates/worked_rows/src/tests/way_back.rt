@@ -135,16 +135,20 @@ fn a_binary_in_another_form_is_outside(rt: HostRuntime) -> Result<(), Fail> {
     Ok(())
 }
 
+/// The line that tells the rule of framing by which a listing was refused, or, where it wasn't, that a binary is outside.
+fn refusal_line(listed: &Ran) -> &[u8] {
+    if listed.status == Status::Refused {
+        return listed.err.as_slice();
+    }
+    OUTSIDE
+}
+
 /// Whether a front of a binary is refused by the rule of framing that its listing is refused by, or for being outside.
 fn is_refused_as_its_listing(alloc: Global, front: &[u8]) -> Result<bool, Fail> {
     let listed = run_words(alloc, &["show", "--from", "spirv"], front)?;
     let ran = back(alloc, front)?;
-    let expected = if listed.status == Status::Refused {
-        listed.err.as_slice()
-    } else {
-        OUTSIDE
-    };
-    Ok(ran.status == Status::Refused && ran.err.as_slice() == expected)
+    let is_told = ran.err.as_slice() == refusal_line(&listed);
+    Ok(ran.status == Status::Refused && is_told)
 }
 
 #[test]

@@ -1,0 +1,9 @@
+pub mod Nesting
+pub mod Numerals
+pub mod SingleValues
+pub mod TypeOpenings
+pub mod TypeParts
+pub mod TypeRefusals
+pub mod ValueOpenings
+pub mod ValueParts
+pub mod ValueRefusals
