@@ -1,0 +1,11 @@
+pub mod Definitions
+pub mod Functions
+pub mod IdRules
+pub mod Laws
+pub mod NameRules
+pub mod Places
+pub mod RoleRules
+pub mod SectionOrder
+pub mod Standing
+pub mod Uses
+pub mod Widths
