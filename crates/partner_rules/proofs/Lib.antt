@@ -1,0 +1,5 @@
+pub mod FunctionParts
+pub mod OnceDefined
+pub mod Places
+pub mod RisingRanks
+pub mod Sectioned
