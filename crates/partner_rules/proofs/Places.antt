@@ -1,4 +1,4 @@
--- Rules that don't look at places.
+-- Where a rule isn't broken, no place is told.
 use Rattle.std.proofs.Common.{◌≡◌, ℕ, Bool, false, List, [], ◌++◌, ap, ◌∙◌}
 use Rattle.spv_build.specs.Places.{place_if}
 
