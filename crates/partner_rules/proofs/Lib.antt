@@ -1,5 +1,16 @@
+pub mod Each
+pub mod EarlierIds
 pub mod FunctionParts
+pub mod GivenRoles
+pub mod IdRoles
+pub mod KnownIds
+pub mod ModuleParts
+pub mod NoFault
 pub mod OnceDefined
 pub mod Places
 pub mod RisingRanks
 pub mod Sectioned
+pub mod UsedIds
+pub mod UsesBounded
+pub mod ValueNames
+pub mod WithinBound

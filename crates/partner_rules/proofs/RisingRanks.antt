@@ -2,7 +2,7 @@
 use Rattle.std.proofs.Common.{◌≡◌, ℕ, ◌+◌, ◌≤◌, Bool, true, false, not, List, [], ◌∷◌, ◌++◌, map, length, Option, Some, None, refl, ap, sym, ◌∙◌, arith, subst}
 use Rattle.std.specs.Prelude.{◌||◌, ◌&&◌, nat_lt}
 use Rattle.std.specs.List.{list_any}
-use Rattle.std.proofs.lemmas.Bool.{false≢true}
+use Rattle.std.proofs.lemmas.Bool.{and_right, or_parts}
 use Rattle.std.proofs.lemmas.Bool.Decides.{nat_tests}
 use Rattle.spv_codec.specs.declared.module.RawInst.{RawInst}
 use Rattle.spv_layout.specs.declared.opcode.Opcode.TheVariants as op
@@ -117,20 +117,12 @@ models-placed place [] = refl
 models-placed place (inst ∷ insts) = ap (λ b. is_model inst || b) (models-placed (place + (length inst.operands + 1)) insts)
 
 -- no further memory model
-and-false : (a b : Bool) → b ≡ false → (a && b) ≡ false
-and-false true b is = is
-and-false false b is = refl
-
-or-parts : (a b : Bool) → (a || b) ≡ false → (a ≡ false) × (b ≡ false)
-or-parts true b e = absurd (false≢true (sym e))
-or-parts false b e = (refl, e)
-
 no-more : (before insts : List RawInst) → list_any is_model insts ≡ false → places_behind gives_again before insts ≡ []
 no-more before [] none = refl
 no-more before (inst ∷ insts) none =
-    let parts = or-parts (is_model inst) (list_any is_model insts) none in
+    let parts = or_parts (is_model inst) (list_any is_model insts) none in
     no-place (gives_again before inst) inst.place (places_behind gives_again (before ++ inst ∷ []) insts)
-    (and-false (list_any is_model before) (is_model inst) parts.0) (no-more (before ++ inst ∷ []) insts parts.1)
+    (and_right (list_any is_model before) (is_model inst) parts.0) (no-more (before ++ inst ∷ []) insts parts.1)
 
 -- the function's instructions
 params-rise : (params : List Param) (rest : List RawInst) → Rises 11 (ranks true rest) → Rises 11 (ranks true (map param_spelled params ++ rest))

@@ -1,0 +1,5 @@
+pub mod OperandFacts
+pub mod PartFacts
+pub mod Readings
+pub mod TypeBegins
+pub mod WholeFacts
