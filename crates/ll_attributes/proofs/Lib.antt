@@ -1,0 +1,12 @@
+pub mod AttachmentFacts
+pub mod AttributeFacts
+pub mod AttributeWords
+pub mod AttributesRead
+pub mod FunctionFacts
+pub mod ListFacts
+pub mod LoopFacts
+pub mod NumberFacts
+pub mod SkipsRead
+pub mod HeadFacts
+pub mod ListEnds
+pub mod OneRefusal
