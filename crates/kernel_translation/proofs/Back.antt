@@ -1,5 +1,6 @@
 -- Translations lead back.
-use Rattle.std.proofs.Common.{◌≡◌, ℕ, ◌+◌, ◌*◌, ◌≤◌, List, length, refl, sym, ◌∙◌, ap, subst, arith}
+use Rattle.std.proofs.Common.{◌≡◌, ℕ, ◌+◌, ◌*◌, ◌≤◌, List, None, length, refl, sym, ◌∙◌, ap, subst, arith}
+use Rattle.spv_build.specs.NameRules.{names_fault}
 use Rattle.spv_codec.specs.declared.module.RawModule.{RawModule}
 use Rattle.spv_codec.specs.Framing.{IsSpirv, module_words}
 use Rattle.spv_module.specs.Sections.{flattened}
@@ -15,7 +16,9 @@ use Rattle.kernel_reading.proofs.PrintedKernels.{printed}
 use Rattle.to_llvm.specs.ModulesOf.{IsBinaryOf, IsModuleOf}
 use Rattle.to_llvm.proofs.LawLemmas.{binaries-are, one-kernel as one-module-kernel}
 use Rattle.kernel_translation.specs.Translations.{IsBinary, IsCanonicalOf, IsTranslation, KeepsLimits, binary_of}
-use Rattle.kernel_translation.specs.TextTranslations.{HasNoText, IsCanonicalBinary, IsModuleText, IsOutsideBinary, IsTextTranslation, IsTextTranslationAndBack, IsTranslationAndBack}
+use Rattle.kernel_translation.specs.TextTranslations.{HasNoText, IsCanonicalBinary, IsModuleText, IsNamesBreak, IsOutsideBinary, IsTextTranslation, IsTextTranslationAndBack, IsTranslationAndBack, IsUntranslatedBinary}
+use Rattle.kernel_translation.specs.declared.error.BinaryError.{BinaryError}
+use Rattle.kernel_translation.specs.declared.error.BinaryError.TheVariants as told
 use Rattle.kernel_translation.proofs.Binaries.{form-alike, form-canonical, form-framed, is-translation}
 
 -- a binary is as long in either order
@@ -89,15 +92,26 @@ module-text input bytes raw spirv short is =
     text-and-back input bytes
     (is-text binary.order input bytes is.form (record { canonical = is.canonical; limits = limits; spelled = binary.spelled }) is.spelled)
 
-pub outside-binary : (input : List ℕ) (raw : RawModule) → IsSpirv input raw → HasNoText raw → IsOutsideBinary input
-outside-binary input raw spirv none = record {
+pub outside-binary : (input : List ℕ) (raw : RawModule) → IsSpirv input raw → names_fault raw ≡ None → HasNoText raw → IsOutsideBinary input
+outside-binary input raw spirv keeps none = record {
   raw = raw;
   framed = spirv;
+  keeps = keeps;
   none = λ order form is.
       none form is.canonical
       ((binaries-are input raw form spirv is.canonical).1 (record { within = is.limits.within; plain = is.limits.named; order = order; spelled = is.spelled }))
       is.limits.text;
 }
+
+-- a module that breaks a rule is that of an invalid binary
+pub names-break : (input : List ℕ) (raw : RawModule) (error other : BinaryError) → other ≡ error → IsSpirv input raw → IsNamesBreak raw error → IsUntranslatedBinary input other
+names-break input raw error other same spirv first = subst (IsUntranslatedBinary input) (sym same) (by error first)
+  where
+    by : (e : BinaryError) → IsNamesBreak raw e → IsUntranslatedBinary input e
+    by told.NoMemory breaks = tt
+    by (told.Misframed fault) breaks = absurd breaks
+    by (told.Invalid fault) breaks = record { raw = raw; framed = spirv; breaks = breaks }
+    by told.Outside breaks = absurd breaks
 
 -- a text that is too long is that of the only kernel whose module this is
 pub too-long : (raw : RawModule) (kernel : Kernel) → IsCanonicalKernel kernel → IsModuleOf raw kernel → (length (kernel_text kernel) ≤ 16777216 → ⊥) → HasNoText raw

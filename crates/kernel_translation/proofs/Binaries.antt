@@ -1,5 +1,5 @@
 -- The binary of a canonical form spells a module.
-use Rattle.std.proofs.Common.{◌≡◌, ℕ, List, [], ◌∷◌, ◌<◌, All, length, map, refl, arith, subst, sym, true, ap, is_some}
+use Rattle.std.proofs.Common.{◌≡◌, ℕ, List, [], ◌∷◌, ◌<◌, All, length, map, refl, arith, subst, sym, true, None, ap, is_some}
 use Rattle.std.proofs.lemmas.List.Elements.{All-nil, All-cons}
 use Rattle.kernel_tree.specs.declared.kernel.Kernel.{Kernel}
 use Rattle.kernel_tree.specs.declared.kernel.KernelInst.{KernelInst}
@@ -8,6 +8,7 @@ use Rattle.kernel_tree.specs.Canonical.{aligned, canonical, inst_aligned, inst_n
 use Rattle.kernel_tree.specs.Covered.{is_covered}
 use Rattle.kernel_tree.specs.Modules.{text_module}
 use Rattle.kernel_tree.specs.Numbered.{IsNumbered}
+use Rattle.spv_build.specs.NameRules.{names_fault}
 use Rattle.spv_codec.specs.declared.module.RawInst.{RawInst}
 use Rattle.spv_codec.specs.declared.module.RawModule.{RawModule}
 use Rattle.spv_codec.specs.Framing.{IsRight, module_words}
@@ -20,6 +21,7 @@ use Rattle.to_spirv.specs.Pairing.{Pairs}
 use Rattle.to_spirv.specs.Partner.{partner}
 use Rattle.to_spirv.proofs.FitLemmas.{framing-kept}
 use Rattle.to_spirv.proofs.PairLemmas.{pairs}
+use Rattle.partner_rules.proofs.NoFault.{covered-unbroken}
 use Rattle.partner_runs.proofs.Translations.{translated-runs}
 use Rattle.kernel_reading.specs.CanonicalKernels.{IsCanonicalKernel}
 use Rattle.kernel_reading.proofs.CanonicalForms.{canonical-kernel}
@@ -34,13 +36,14 @@ use Rattle.ll_canon.proofs.NumberedForms.{canonical-numbered, covered-distinct}
 use Rattle.kernel_translation.specs.Translations.{IsBinary, IsCanonicalOf, IsTranslation, KeepsLimits, PairsAlone, ShowTheSame, binary_of}
 
 -- the words of a module that breaks no rule spell it, in either order
-pub right-binary : (raw : RawModule) (order : Order) (bytes : List ℕ) → IsRight raw → bytes ≡ words_bytes order (module_words raw) → IsBinary order bytes
-right-binary raw order bytes right spelled =
+pub right-binary : (raw : RawModule) (order : Order) (bytes : List ℕ) → IsRight raw → names_fault raw ≡ None → bytes ≡ words_bytes order (module_words raw) → IsBinary order bytes
+right-binary raw order bytes right keeps spelled =
     let same : RawModule = record { order = order; version = raw.version; generator = raw.generator; bound = raw.bound; insts = raw.insts } in
     record {
       raw = same;
       ordered = refl;
       spirv = record { spelled = spelled; right = record { header = right.header; generator = right.generator; fit = right.fit } };
+      keeps = keeps;
     }
 
 pub form-numbered : (input : List ℕ) (form : Kernel) → IsCanonicalOf input form → IsNumbered form
@@ -93,12 +96,13 @@ form-alike source form covered is = subst (λ (k : Kernel). ShowTheSame source k
 pub form-framed : (order : Order) (bytes : List ℕ) (form : Kernel) → IsCanonicalKernel form → KeepsLimits order form → bytes ≡ binary_of order form → IsBinary order bytes
 form-framed order bytes form is limits spelled =
     let numbered : IsNumbered form = subst IsNumbered is.its_own (canonical-numbered form (covered-distinct form is.covered)) in
-    right-binary (flattened (partner form)) order bytes (framing-kept form numbered limits.within limits.named) spelled
+    right-binary (flattened (partner form)) order bytes (framing-kept form numbered limits.within limits.named) (covered-unbroken form numbered limits.named is.covered) spelled
 
 -- what is written is the translation
 pub is-translation : (order : Order) (input bytes : List ℕ) (form : Kernel) → IsCanonicalOf input form → KeepsLimits order form → bytes ≡ binary_of order form → IsTranslation order input bytes
 is-translation order input bytes form is limits spelled =
-    let has = canonical-module form (form-canonical input form is) in
+    let canonical = form-canonical input form is in
+    let has = canonical-module form canonical in
     record {
       form = form;
       translatable = record { canonical = is; limits = limits };
@@ -108,7 +112,7 @@ is-translation order input bytes form is limits spelled =
       valid = has.valid;
       alike = form-alike is.source form is.covered is.canonical;
       spelled = spelled;
-      binary = right-binary (flattened (partner form)) order bytes (framing-kept form (form-numbered input form is) limits.within limits.named) spelled;
+      binary = form-framed order bytes form canonical limits spelled;
     }
 
 -- the module of a kernel within the limits can be written

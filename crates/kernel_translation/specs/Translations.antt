@@ -13,6 +13,7 @@ use Rattle.kernel_tree.specs.Canonical.{canonical}
 use Rattle.kernel_tree.specs.Covered.{first_undefined, is_covered}
 use Rattle.kernel_tree.specs.Modules.{text_module}
 use Rattle.kernel_tree.specs.Text.{kernel_text}
+use Rattle.spv_build.specs.NameRules.{names_fault}
 use Rattle.spv_codec.specs.declared.module.RawModule.{RawModule}
 use Rattle.spv_codec.specs.Framing.{IsSpirv, module_words}
 use Rattle.spv_canon.specs.Canonical.{canonical_spirv}
@@ -28,11 +29,12 @@ use Rattle.to_spirv.specs.Partner.{partner}
 use Rattle.kernel_translation.specs.declared.error.TranslateError.{TranslateError}
 use Rattle.kernel_translation.specs.declared.error.TranslateError.TheVariants.{NoMemory, UndefinedName, Outside}
 
--- the bytes spell a module in this order
+-- the bytes spell a module in this order, which breaks no rule of its sections, ids and functions
 pub record IsBinary (order : Order) (bytes : List ℕ) : Type 0 where
   pub raw : RawModule
   pub ordered : raw.order ≡ order
   pub spirv : IsSpirv bytes raw
+  pub keeps : names_fault raw ≡ None
 
 -- the bytes of the module that pairs with a kernel with numbered names
 abbrev pub binary_of : Order → Kernel → List ℕ
@@ -77,7 +79,7 @@ abbrev pub PairsAlone : Kernel → Type 0
 PairsAlone form = (m : SpvModule) → HasSoundIds m → Pairs (text_module form) m → canonical_spirv m ≡ partner form
 
 -- The bytes are those of the one module that pairs with the canonical form of the input's kernel. It is valid and canonical, and shows what
--- the input shows, and the bytes break no rule of framing
+-- the input shows, and the bytes break no rule of framing and none of sections, ids and functions
 pub record IsTranslation (order : Order) (input bytes : List ℕ) : Type 0 where
   pub form : Kernel
   pub translatable : IsTranslatable order input form

@@ -64,6 +64,8 @@ pub enum BinaryError {
     NoMemory,
     /// The bytes break this rule of framing first.
     Misframed(SpvFault),
+    /// The module that the bytes spell breaks this rule of its sections, ids or functions first.
+    Invalid(SpvFault),
     /// The binary is outside the covered subset.
     Outside,
 }
@@ -73,6 +75,7 @@ impl fmt::Display for BinaryError {
         f.write_str(match self {
             BinaryError::NoMemory => "out of memory",
             BinaryError::Misframed(_) => "the bytes break a rule of framing",
+            BinaryError::Invalid(_) => "the module breaks a rule of its sections, ids or functions",
             BinaryError::Outside => "the binary is outside the covered subset",
         })
     }

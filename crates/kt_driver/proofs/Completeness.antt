@@ -3,7 +3,7 @@ use Rattle.std.proofs.Common.{◌≡◌, ℕ, ◌≤◌, inl, inr, List, ◌++�
 use Rattle.std.specs.Prelude.{Option, Some, None}
 use Rattle.ports.specs.Streams.{GivesSome, GivesCount}
 use Rattle.kt_driver.specs.declared.refusals.Refusal.{Refusal}
-use Rattle.kt_driver.specs.declared.refusals.Refusal.TheVariants.{TooLong, UndefinedName, Outside, Unreadable, Misframed}
+use Rattle.kt_driver.specs.declared.refusals.Refusal.TheVariants.{TooLong, UndefinedName, Outside, Unreadable, Misframed, Invalid}
 use Rattle.kt_driver.specs.declared.request.Request.{Request}
 use Rattle.kt_driver.specs.declared.request.Format.{Format}
 use Rattle.kt_driver.specs.declared.request.Format.TheVariants.{Llvm, Spirv}
@@ -43,6 +43,7 @@ free-not_refused request (UndefinedName byte) input old new is free reads = refu
 free-not_refused request (Outside format) input old new is free reads = refused-due request (Outside format) input old new is free.1 reads
 free-not_refused request (Unreadable fault) input old new is free reads = refused-due request (Unreadable fault) input old new is free.1 reads
 free-not_refused request (Misframed fault) input old new is free reads = refused-due request (Misframed fault) input old new is free.1 reads
+free-not_refused request (Invalid fault) input old new is free reads = refused-due request (Invalid fault) input old new is free.1 reads
 
 -- what is read for a refusal is some bytes
 pub GivesSome-ReadsFor : (request : Request) (refusal : Refusal) (old new : Option (List ℕ)) → ReadsFor request refusal old new → GivesSome old new
@@ -51,6 +52,7 @@ GivesSome-ReadsFor request (UndefinedName byte) old new reads = record { given =
 GivesSome-ReadsFor request (Outside format) old new reads = record { given = reads.input; gives = reads.reads.gives }
 GivesSome-ReadsFor request (Unreadable fault) old new reads = record { given = reads.input; gives = reads.reads.gives }
 GivesSome-ReadsFor request (Misframed fault) old new reads = record { given = reads.input; gives = reads.reads.gives }
+GivesSome-ReadsFor request (Invalid fault) old new reads = record { given = reads.input; gives = reads.reads.gives }
 
 listed-not-refused : (format : Format) (input bytes : List ℕ) (refusal : Refusal) → IsListed format input bytes → IsUnlisted format input refusal → ⊥
 listed-not-refused format input bytes (TooLong other) is due = due
@@ -61,6 +63,7 @@ listed-not-refused Llvm input bytes (Unreadable fault) is due =
 listed-not-refused Spirv input bytes (Unreadable fault) is due = due
 listed-not-refused Llvm input bytes (Misframed fault) is due = due
 listed-not-refused Spirv input bytes (Misframed fault) is due = module-or_fault input is.raw fault is.spirv due
+listed-not-refused format input bytes (Invalid fault) is due = due
 
 answer-not-refused : (request : Request) (input bytes : List ℕ) (refusal : Refusal) → IsAnswer request input bytes → IsDue request input refusal → ⊥
 answer-not-refused (Translate Llvm to order) input bytes refusal is due = translation-not-refused order input bytes refusal is.there due

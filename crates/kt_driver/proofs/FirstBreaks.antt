@@ -12,7 +12,7 @@ use Rattle.kernel_tree.specs.Covered.{first_undefined}
 use Rattle.kernel_translation.specs.Translations.{IsOutside, IsTextOf, IsTranslation, IsUndefinedIn}
 use Rattle.kt_driver.specs.declared.refusals.Fault.TheVariants.{Text}
 use Rattle.kt_driver.specs.declared.refusals.Refusal.{Refusal}
-use Rattle.kt_driver.specs.declared.refusals.Refusal.TheVariants.{TooLong, UndefinedName, Outside, Unreadable, Misframed}
+use Rattle.kt_driver.specs.declared.refusals.Refusal.TheVariants.{TooLong, UndefinedName, Outside, Unreadable, Misframed, Invalid}
 use Rattle.kt_driver.specs.declared.request.Format.TheVariants.{Llvm, Spirv}
 use Rattle.kt_driver.specs.Refusals.{fault_of}
 use Rattle.kt_driver.specs.RuleGroups.{AreRules, break_of, outside_subset}
@@ -71,6 +71,7 @@ module _ (order : Order) (input : List ℕ) (groups : List (List RulePlaces)) (r
   refusal-first (Outside Spirv) fault due is = absurd due
   refusal-first (Unreadable other) fault due is = absurd due
   refusal-first (Misframed other) fault due is = absurd due
+  refusal-first (Invalid other) fault due is = absurd due
 
   pub translation-breaks-none : (bytes : List ℕ) → IsTranslation order input bytes → first_in_groups groups ≡ None
   translation-breaks-none bytes is =

@@ -1,12 +1,14 @@
 -- What has a translation is not refused.
-use Rattle.std.proofs.Common.{ℕ, List}
-use Rattle.spv_codec.proofs.FramingLaws.{module-or_fault}
+use Rattle.std.proofs.Common.{◌≡◌, ℕ, List, None, Some, ap, sym, ◌∙◌}
+use Rattle.ports.specs.declared.faults.SpvFault.{SpvFault}
+use Rattle.spv_build.specs.NameRules.{names_fault}
+use Rattle.spv_codec.proofs.FramingLaws.{module-or_fault, one-module}
 use Rattle.spv_words.specs.declared.words.Order.{Order}
 use Rattle.kernel_translation.specs.TextTranslations.{IsTextTranslation}
 use Rattle.kernel_translation.specs.Translations.{IsTranslation}
 use Rattle.kernel_translation.proofs.Sources.{not-undefined}
 use Rattle.kt_driver.specs.declared.refusals.Refusal.{Refusal}
-use Rattle.kt_driver.specs.declared.refusals.Refusal.TheVariants.{TooLong, UndefinedName, Outside, Unreadable, Misframed}
+use Rattle.kt_driver.specs.declared.refusals.Refusal.TheVariants.{TooLong, UndefinedName, Outside, Unreadable, Misframed, Invalid}
 use Rattle.kt_driver.specs.declared.request.Format.TheVariants.{Llvm, Spirv}
 use Rattle.kt_driver.specs.Runs.{IsUntranslatable, IsUntranslatableBinary}
 
@@ -17,6 +19,10 @@ translation-not-refused order input bytes (Outside Llvm) is due = due.untranslat
 translation-not-refused order input bytes (Outside Spirv) is due = due
 translation-not-refused order input bytes (Unreadable fault) is due = due
 translation-not-refused order input bytes (Misframed fault) is due = due
+translation-not-refused order input bytes (Invalid fault) is due = due
+
+none-is-some : (fault : SpvFault) → None ≡ Some fault → ⊥
+none-is-some fault e = absurd cc
 
 pub text-not-refused : (input bytes : List ℕ) (refusal : Refusal) → IsTextTranslation input bytes → IsUntranslatableBinary input refusal → ⊥
 text-not-refused input bytes (TooLong format) is due = due
@@ -25,3 +31,5 @@ text-not-refused input bytes (Outside Llvm) is due = due
 text-not-refused input bytes (Outside Spirv) is due = due.none is.order is.form is.binary
 text-not-refused input bytes (Unreadable fault) is due = due
 text-not-refused input bytes (Misframed fault) is due = module-or_fault input is.framed.raw fault is.framed.spirv due
+text-not-refused input bytes (Invalid fault) is due =
+    none-is-some fault (sym is.framed.keeps ∙ ap names_fault (one-module input is.framed.raw due.raw is.framed.spirv due.framed) ∙ due.breaks)

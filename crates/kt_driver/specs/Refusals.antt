@@ -3,7 +3,7 @@ use Rattle.std.specs.Prelude.{ℕ, List, [], ◌∷◌, ◌++◌, codes, decimal
 use Rattle.kt_driver.specs.declared.refusals.Fault.{Fault}
 use Rattle.kt_driver.specs.declared.refusals.Fault.TheVariants.{Text, Binary}
 use Rattle.kt_driver.specs.declared.refusals.Refusal.{Refusal}
-use Rattle.kt_driver.specs.declared.refusals.Refusal.TheVariants.{TooLong, UndefinedName, Outside, Unreadable, Misframed}
+use Rattle.kt_driver.specs.declared.refusals.Refusal.TheVariants.{TooLong, UndefinedName, Outside, Unreadable, Misframed, Invalid}
 use Rattle.kt_driver.specs.declared.request.Format.{Format}
 use Rattle.kt_driver.specs.declared.request.Format.TheVariants.{Llvm, Spirv}
 
@@ -24,6 +24,7 @@ fault_of (UndefinedName byte) = Text (record { rule = 20; byte = byte })
 fault_of (Outside format) = outside_fault format
 fault_of (Unreadable fault) = Text fault
 fault_of (Misframed fault) = Binary fault
+fault_of (Invalid fault) = Binary fault
 
 -- the line that tells a fault, with its line feed
 abbrev pub fault_line : Fault → List ℕ

@@ -8,11 +8,11 @@ use Rattle.spv_codec.specs.Framing.{IsFramingFault}
 use Rattle.kt_driver.specs.BinaryListings.{IsBinaryListing}
 use Rattle.kt_driver.specs.Listings.{IsListing, IsListingFault}
 use Rattle.kernel_translation.specs.Translations.{IsOutside, IsUndefinedIn}
-use Rattle.kernel_translation.specs.TextTranslations.{IsOutsideBinary, IsTextTranslationAndBack, IsTranslationAndBack}
+use Rattle.kernel_translation.specs.TextTranslations.{IsInvalidBinary, IsOutsideBinary, IsTextTranslationAndBack, IsTranslationAndBack}
 use Rattle.kt_driver.specs.Requests.{input_format}
 use Rattle.kt_driver.specs.Refusals.{refusal_line}
 use Rattle.kt_driver.specs.declared.refusals.Refusal.{Refusal}
-use Rattle.kt_driver.specs.declared.refusals.Refusal.TheVariants.{TooLong, UndefinedName, Outside, Unreadable, Misframed}
+use Rattle.kt_driver.specs.declared.refusals.Refusal.TheVariants.{TooLong, UndefinedName, Outside, Unreadable, Misframed, Invalid}
 use Rattle.kt_driver.specs.declared.reply.Reply.{Reply}
 use Rattle.kt_driver.specs.declared.reply.Reply.TheVariants.{Answer, Refuses}
 use Rattle.kt_driver.specs.declared.reply.ReplyError.{ReplyError}
@@ -45,6 +45,7 @@ IsUntranslatable order input (Outside Llvm) = IsOutside order input
 IsUntranslatable order input (Outside Spirv) = ⊥
 IsUntranslatable order input (Unreadable fault) = ⊥
 IsUntranslatable order input (Misframed fault) = ⊥
+IsUntranslatable order input (Invalid fault) = ⊥
 
 -- the refusals that the translation of a binary may meet in one that is not too long
 abbrev pub IsUntranslatableBinary : List ℕ → Refusal → Type 0
@@ -54,6 +55,7 @@ IsUntranslatableBinary input (Outside Llvm) = ⊥
 IsUntranslatableBinary input (Outside Spirv) = IsOutsideBinary input
 IsUntranslatableBinary input (Unreadable fault) = ⊥
 IsUntranslatableBinary input (Misframed fault) = IsFramingFault input fault
+IsUntranslatableBinary input (Invalid fault) = IsInvalidBinary input fault
 
 -- the refusals that a listing may meet in an input of this format that is not too long
 abbrev pub IsUnlisted : Format → List ℕ → Refusal → Type 0
@@ -64,6 +66,7 @@ IsUnlisted Llvm input (Unreadable fault) = IsListingFault input fault
 IsUnlisted Spirv input (Unreadable fault) = ⊥
 IsUnlisted Llvm input (Misframed fault) = ⊥
 IsUnlisted Spirv input (Misframed fault) = IsFramingFault input fault
+IsUnlisted format input (Invalid fault) = ⊥
 
 -- the refusals that a request may meet in an input that is not too long
 abbrev pub IsDue : Request → List ℕ → Refusal → Type 0
@@ -90,6 +93,7 @@ ReadsFor request (UndefinedName byte) old new = ReadsRefused request (UndefinedN
 ReadsFor request (Outside format) old new = ReadsRefused request (Outside format) old new
 ReadsFor request (Unreadable fault) old new = ReadsRefused request (Unreadable fault) old new
 ReadsFor request (Misframed fault) old new = ReadsRefused request (Misframed fault) old new
+ReadsFor request (Invalid fault) old new = ReadsRefused request (Invalid fault) old new
 
 -- the source was read to its end, and these bytes answer the request on the input that it gave
 pub record ReadsAnswered (request : Request) (bytes : List ℕ) (old new : Option (List ℕ)) : Type 0 where

@@ -18,6 +18,8 @@ pub enum Refusal {
     Unreadable(LlFault),
     /// The bytes break a rule of a binary's framing.
     Misframed(SpvFault),
+    /// The module that the bytes spell breaks a rule of its sections, ids or functions.
+    Invalid(SpvFault),
 }
 
 /// A rule that an input breaks, and where.
@@ -39,7 +41,7 @@ impl Refusal {
             Refusal::UndefinedName { byte } => Fault::Text(LlFault { rule: 20, byte }),
             Refusal::Outside(format) => outside(format),
             Refusal::Unreadable(fault) => Fault::Text(fault),
-            Refusal::Misframed(fault) => Fault::Binary(fault),
+            Refusal::Misframed(fault) | Refusal::Invalid(fault) => Fault::Binary(fault),
         }
     }
 

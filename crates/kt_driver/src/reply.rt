@@ -87,6 +87,7 @@ fn text_translated(alloc: Global, input: &[u8]) -> Result<Reply, ReplyError>
     match translate_binary(alloc, input) {
         Ok(text) => Ok(Reply::Answer(text)),
         Err(BinaryError::Misframed(fault)) => refuse(alloc, Refusal::Misframed(fault)),
+        Err(BinaryError::Invalid(fault)) => refuse(alloc, Refusal::Invalid(fault)),
         Err(BinaryError::Outside) => refuse(alloc, Refusal::Outside(Format::Spirv)),
         Err(BinaryError::NoMemory) => Err(ReplyError::NoMemory),
     }

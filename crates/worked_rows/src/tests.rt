@@ -2,6 +2,7 @@ mod binaries;
 mod commands;
 mod first_kernel;
 mod listings;
+mod names;
 mod streams;
 mod way_back;
 mod words;
