@@ -139,8 +139,7 @@ fn a_binary_in_another_form_is_outside(rt: HostRuntime) -> Result<(), Fail> {
 fn is_refused_as_its_listing(alloc: Global, front: &[u8]) -> Result<bool, Fail> {
     let listed = run_words(alloc, &["show", "--from", "spirv"], front)?;
     let ran = back(alloc, front)?;
-    let is_told =
-        listed.status != Status::Refused || ran.err.as_slice() == listed.err.as_slice();
+    let is_told = listed.status != Status::Refused || ran.err.as_slice() == listed.err.as_slice();
     Ok(ran.status == Status::Refused && is_told)
 }
 
