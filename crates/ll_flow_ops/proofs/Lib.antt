@@ -1,0 +1,8 @@
+pub mod ExactOperations
+pub mod ItemsRead
+pub mod OpcodesApart
+pub mod OperationsRead
+pub mod PartsDerived
+pub mod PhisRead
+pub mod ReturnTypes
+pub mod SwitchesRead

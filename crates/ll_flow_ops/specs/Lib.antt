@@ -1,0 +1,3 @@
+pub mod FlowOpcodes
+pub mod FlowOperations
+pub mod FlowParts

@@ -1,0 +1,2 @@
+pub mod ValueOpcodes
+pub mod ValueOperations
