@@ -1,0 +1,4 @@
+pub mod Definitions
+pub mod HeadParts
+pub mod Heads
+pub mod Params
