@@ -1,0 +1,10 @@
+pub mod ItemFacts
+pub mod ItemsRead
+pub mod ListsRead
+pub mod NodeFacts
+pub mod SmallRead
+pub mod StartFacts
+pub mod VariableFacts
+pub mod VariableWhole
+pub mod VariablesRead
+pub mod WholeFacts
