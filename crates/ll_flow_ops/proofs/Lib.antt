@@ -1,5 +1,4 @@
 pub mod ExactOperations
-pub mod ItemsRead
 pub mod OpcodesApart
 pub mod OperationsRead
 pub mod PartsDerived

@@ -34,7 +34,7 @@ use Rattle.ll_operands.proofs.Readings.{any_value_read, first_refused, local_ref
 use Rattle.ll_flow_ops.specs.declared.opcodes.FlowOpcode.TheVariants as opcode
 use Rattle.ll_flow_ops.specs.FlowOperations.{behind}
 use Rattle.ll_flow_ops.specs.FlowParts.{entries_of, entries_part, entry_of, entry_part, more_entries_of, next_entry, next_entry_part, phi_part}
-use Rattle.ll_flow_ops.proofs.ItemsRead.{ItemsSoFar, gathered, read_here}
+use Rattle.ll_operands.proofs.ItemsRead.{ItemsSoFar, gathered, read_here}
 
 module _ (t : LlType) where
   -- one entry

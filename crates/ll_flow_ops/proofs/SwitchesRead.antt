@@ -25,7 +25,7 @@ use Rattle.ll_flow_ops.specs.declared.opcodes.FlowOpcode.TheVariants as opcode
 use Rattle.ll_flow_ops.specs.declared.targets.Target.{Target}
 use Rattle.ll_flow_ops.specs.FlowOperations.{behind}
 use Rattle.ll_flow_ops.specs.FlowParts.{cases, no_close, target, target_part}
-use Rattle.ll_flow_ops.proofs.ItemsRead.{ItemsSoFar, gathered, none_yet, read_here, so_far_times}
+use Rattle.ll_operands.proofs.ItemsRead.{ItemsSoFar, gathered, none_yet, read_here, so_far_times}
 
 -- a value and a block
 target_made : (names : List NameText) (v : TypedValue) (name : Name) (tokens middle inside rest : List Lexeme) → mark 44 middle inside → typed names v tokens middle → label names name inside rest → target names (record { value = v; block = name }) tokens rest

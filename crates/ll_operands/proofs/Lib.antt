@@ -1,3 +1,4 @@
+pub mod ItemsRead
 pub mod OperandFacts
 pub mod PartFacts
 pub mod Readings

@@ -5,7 +5,7 @@ use Rattle.ll_operands.specs.Parts.{repeated}
 use Rattle.ll_operands.specs.Whole.{entry_comma}
 use Rattle.ll_operands.proofs.Readings.{told_as}
 use Rattle.ll_flow_ops.specs.FlowParts.{next_entry, next_entry_part}
-use Rattle.ll_flow_ops.proofs.ItemsRead.{item_fewer, none_yet, one_more, repeated_refused, so_far_times}
+use Rattle.ll_operands.proofs.ItemsRead.{item_fewer, none_yet, one_more, repeated_refused, so_far_times}
 use Rattle.ll_flow_ops.proofs.PhisRead.{more_read, next_is_part, next_shortens}
 use Rattle.ll_flow_ops.proofs.phis.read_more_entries.Goals as goal
 

@@ -1,5 +1,5 @@
 use Rattle.ll_flow_ops.specs.FlowParts.{next_entry}
-use Rattle.ll_flow_ops.proofs.ItemsRead.{ItemsSoFar}
+use Rattle.ll_operands.proofs.ItemsRead.{ItemsSoFar}
 use Rattle.ll_flow_ops.proofs.phis.read_more_entries.Given as goal
 
 abbrev pub invariant-loop-entries : goal.invariant-loop-entries

@@ -4,7 +4,7 @@ use Rattle.ll_parser.specs.GrammarInsts.{switch_case}
 use Rattle.ll_operands.specs.Parts.{mark_part, repeated}
 use Rattle.ll_operands.proofs.Readings.{first_refused, mark_refused, told_as, told_refusal}
 use Rattle.ll_flow_ops.specs.FlowParts.{cases_part, no_close, target_part}
-use Rattle.ll_flow_ops.proofs.ItemsRead.{item_fewer, one_more, repeated_refused, so_far_times}
+use Rattle.ll_operands.proofs.ItemsRead.{item_fewer, one_more, repeated_refused, so_far_times}
 use Rattle.ll_flow_ops.proofs.SwitchesRead.{case_is_part, case_shortens, cases_end, cases_read, first_case}
 use Rattle.ll_flow_ops.proofs.switches.read_cases.Goals as goal
 

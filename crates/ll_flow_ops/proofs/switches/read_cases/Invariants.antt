@@ -1,6 +1,6 @@
 use Rattle.std.proofs.Common.{[]}
 use Rattle.ll_parser.specs.GrammarInsts.{switch_case}
-use Rattle.ll_flow_ops.proofs.ItemsRead.{ItemsSoFar}
+use Rattle.ll_operands.proofs.ItemsRead.{ItemsSoFar}
 use Rattle.ll_flow_ops.proofs.switches.read_cases.Given as goal
 
 abbrev pub invariant-loop-cases : goal.invariant-loop-cases
