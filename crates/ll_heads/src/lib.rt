@@ -17,3 +17,5 @@ pub use laws::{
     definitions_begin_with_their_fronts, heads_are_read_in_one_way, heads_leave_one_rest,
     refused_heads_derive_nothing,
 };
+pub use numbering::{is_number, one_more};
+pub use params::first_place;

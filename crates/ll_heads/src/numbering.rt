@@ -51,7 +51,7 @@ fn numbering_behind(
 }
 
 /// Whether the name that has this number in the table is spelled by digits.
-fn is_number(names: &NameTable, number: u32) -> bool
+pub fn is_number(names: &NameTable, number: u32) -> bool
     ensures { (next : ℕ) → next_behind names.now (slice_get names.now number) next ≡ (if result then next + 1 else next) }
 {
     match names.name(number) {
@@ -64,7 +64,7 @@ fn is_number(names: &NameTable, number: u32) -> bool
 }
 
 /// The next number. It fails where there is none of 32 bits, which is told as want of memory.
-fn one_more(number: u32) -> Result<u32, AllocError>
+pub fn one_more(number: u32) -> Result<u32, AllocError>
     ensures { IfOk result (λ next. next ≡ number + 1) }
 {
     number.checked_add(1).ok_or(AllocError)
