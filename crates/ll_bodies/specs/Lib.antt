@@ -1,0 +1,4 @@
+pub mod BodyJoins
+pub mod BodyWords
+pub mod Labels
+pub mod Namings

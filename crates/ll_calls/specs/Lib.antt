@@ -1,0 +1,3 @@
+pub mod CallOpenings
+pub mod CallParts
+pub mod Calls

@@ -1,0 +1,4 @@
+pub mod Blocks
+pub mod InstParts
+pub mod Insts
+pub mod Operations

@@ -1,0 +1,9 @@
+pub mod AccessesRead
+pub mod AddressesRead
+pub mod AllocationsRead
+pub mod AtomicsRead
+pub mod ExactOperations
+pub mod OpcodesApart
+pub mod OperationsRead
+pub mod OrdersRead
+pub mod PartsDerived
