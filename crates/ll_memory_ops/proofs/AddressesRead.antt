@@ -14,7 +14,7 @@ use Rattle.ll_parser.proofs.TableFacts.{extends_then}
 use Rattle.ll_types.proofs.Tokens.{Shortens, seq_shortens, shortens_ends, token_shortens}
 use Rattle.ll_types.proofs.TypesRead.{reads_as}
 use Rattle.ll_types.proofs.ValueRows.{typed_shortens}
-use Rattle.ll_operands.specs.Parts.{operand_comma, repeated, times}
+use Rattle.ll_operands.specs.Parts.{operand_comma, times}
 use Rattle.ll_operands.proofs.ItemsRead.{ItemsSoFar, gathered, read_here}
 use Rattle.ll_operands.proofs.Readings.{reads_then}
 use Rattle.ll_memory_ops.specs.declared.accesses.Pointee.{Pointee}

@@ -2,7 +2,7 @@
 use Rattle.std.proofs.Common.{◌≡◌, ℕ, ℤ, List, codes, length, Option, None, Some, refl, sym, subst, inl, inr, arith}
 use Rattle.std.proofs.lemmas.List.{length-map}
 use Rattle.ll_tokens.specs.declared.kinds.Token.{Token}
-use Rattle.ll_tokens.specs.declared.kinds.TokenKind.TheVariants.{Int as IntToken, MdName, Punct, Word}
+use Rattle.ll_tokens.specs.declared.kinds.TokenKind.TheVariants.{Int as IntToken, Punct, Word}
 use Rattle.ll_tokens.specs.Tokens.{Lexeme, lexeme_of, lexemes_of}
 use Rattle.ll_tree.specs.declared.name.NameText.{NameText}
 use Rattle.ll_tree.specs.declared.op.AllocaCount.{AllocaCount}
@@ -28,8 +28,8 @@ use Rattle.ll_operands.proofs.Readings.{reads_then}
 use Rattle.ll_operands.proofs.TypeBegins.{type_no_word}
 use Rattle.ll_memory_ops.specs.declared.allocations.Extent.{Extent}
 use Rattle.ll_memory_ops.specs.declared.opcodes.MemoryOpcode.TheVariants as opcode
-use Rattle.ll_memory_ops.specs.AccessParts.{align_here, align_part}
-use Rattle.ll_memory_ops.specs.AllocationParts.{alloca_part, count_here, count_part, ends_extent, extent, extent_inside, extent_inside_part, extent_part, inside_of, integer_part}
+use Rattle.ll_memory_ops.specs.AccessParts.{align_here}
+use Rattle.ll_memory_ops.specs.AllocationParts.{alloca_part, count_here, count_part, ends_extent, extent, extent_inside, extent_part, inside_of, integer_part}
 use Rattle.ll_memory_ops.specs.MemoryOperations.{behind}
 use Rattle.ll_memory_ops.proofs.AccessesRead.{align_is_part}
 use Rattle.ll_memory_ops.proofs.OpcodesApart.{align_no_type}

@@ -8,7 +8,7 @@ use Rattle.ll_parser.proofs.EndFacts.{token_ends}
 use Rattle.ll_parser.proofs.TokenFacts.{token_leaves_one}
 use Rattle.ll_types.proofs.Tokens.{kinds_apart, token_end}
 use Rattle.ll_operands.specs.Operands.{three_part, two_part}
-use Rattle.ll_operands.specs.Parts.{Begins, mark_part, number_part, one_word, operand_comma, optional, repeated, ◌then◌, type_part, typed_part, word_part}
+use Rattle.ll_operands.specs.Parts.{Begins, mark_part, number_part, one_word, operand_comma, repeated, ◌then◌, type_part, typed_part, word_part}
 use Rattle.ll_operands.specs.Whole.{align_comma}
 use Rattle.ll_operands.proofs.OperandFacts.{exact_three, exact_two}
 use Rattle.ll_operands.proofs.PartFacts.{IsExact, exact_either, exact_mark, exact_number, exact_one_word, exact_optional, exact_repeated, exact_then, exact_type, exact_type_then, exact_typed, exact_word, exact_word_then}

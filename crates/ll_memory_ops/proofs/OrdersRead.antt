@@ -4,14 +4,12 @@ use Rattle.std.proofs.lemmas.List.{length-map}
 use Rattle.ll_tokens.specs.declared.kinds.Token.{Token}
 use Rattle.ll_tokens.specs.Tokens.{Lexeme, lexeme_of, lexemes_of}
 use Rattle.ll_tree.specs.declared.op.Order.{Order}
-use Rattle.ll_parser.specs.declared.refusal.ReadError.{ReadError}
-use Rattle.ll_parser.specs.declared.refusal.ReadError.TheVariants.{NoMemory, Refused}
 use Rattle.ll_parser.specs.declared.refusal.Refusal.{Refusal}
 use Rattle.ll_parser.specs.GrammarInsts.{order, scope, syncscope}
 use Rattle.ll_parser.specs.GrammarItems.{any_text, text}
 use Rattle.ll_parser.specs.Productions.{◌>>◌, mark, word}
 use Rattle.ll_parser.specs.Reading.{DerivesNone, EndsNowhere}
-use Rattle.ll_operands.specs.Parts.{Refuses, one_word, optional}
+use Rattle.ll_operands.specs.Parts.{one_word}
 use Rattle.ll_memory_ops.specs.declared.orders.ScopedOrder.{ScopedOrder}
 use Rattle.ll_memory_ops.specs.OrderParts.{scope_here, scope_part, scoped_order, scoped_order_part, written_scope_part}
 use Rattle.ll_memory_ops.proofs.OpcodesApart.{order_no_scope}

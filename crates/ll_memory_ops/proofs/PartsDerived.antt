@@ -7,7 +7,7 @@ use Rattle.ll_tree.specs.declared.op.Op.TheVariants as op
 use Rattle.ll_tree.specs.declared.op.Order.{Order}
 use Rattle.ll_tree.specs.declared.ty.LlType.{LlType}
 use Rattle.ll_tree.specs.declared.value.TypedValue.{TypedValue}
-use Rattle.ll_parser.specs.GrammarInsts.{alignment, order, scope}
+use Rattle.ll_parser.specs.GrammarInsts.{order, scope}
 use Rattle.ll_parser.specs.GrammarTypes.{ty}
 use Rattle.ll_parser.specs.GrammarValues.{if_word, typed}
 use Rattle.ll_parser.specs.Productions.{Production, ◌>>◌, mark, word}
@@ -18,7 +18,7 @@ use Rattle.ll_operands.proofs.OperandFacts.{three_is_part, two_is_part}
 use Rattle.ll_operands.proofs.PartFacts.{same_word}
 use Rattle.ll_operands.proofs.TypeBegins.{BeginsNoType, type_no_word, typed_no_word}
 use Rattle.ll_memory_ops.specs.declared.opcodes.MemoryOpcode.TheVariants as opcode
-use Rattle.ll_memory_ops.specs.AccessParts.{alignment_part, if_word_part, pointee, pointee_part}
+use Rattle.ll_memory_ops.specs.AccessParts.{if_word_part, pointee_part}
 use Rattle.ll_memory_ops.specs.MemoryOpcodes.{opcode_word}
 use Rattle.ll_memory_ops.specs.MemoryOperations.{behind_opcode, memory_operation, memory_operation_part}
 use Rattle.ll_memory_ops.specs.OrderParts.{scoped_order_part}
@@ -27,10 +27,9 @@ use Rattle.ll_memory_ops.proofs.AddressesRead.{indexes_begin}
 use Rattle.ll_memory_ops.proofs.AllocationsRead.{alloca_begins}
 use Rattle.ll_memory_ops.proofs.ExactOperations.{exact_behind}
 use Rattle.ll_memory_ops.proofs.OpcodesApart.{atomic_no_type, inbounds_no_type, volatile_no_atomic, volatile_no_type}
-use Rattle.ll_memory_ops.proofs.OperationsRead.{if_word_is_part}
 use Rattle.ll_memory_ops.proofs.OrdersRead.{scoped_is_part}
 
--- the word `volatile`, or what begins with neither it nor `atomic`
+-- tokens begin with `volatile`, or as what stands behind it does: with no `atomic`
 no_atomic : (volatile : Bool) (tokens middle : List Lexeme) → if_word (codes "volatile") volatile tokens middle → EndsNowhere (word (codes "atomic")) middle → EndsNowhere (word (codes "atomic")) tokens
 no_atomic true tokens middle v nowhere end w = volatile_no_atomic (same_word (codes "volatile") (codes "atomic") tokens middle end v w)
 no_atomic false tokens middle same nowhere end w = subst (EndsNowhere (word (codes "atomic"))) (sym same) nowhere end w
@@ -72,7 +71,7 @@ module _ (names : List NameText) where
   three_begins a b c tokens rest (o, (m, d, (n, comma, e)), (p, comma', f)) =
       three_is_part names (record { first = a; second = b; third = c }) tokens rest (m, d, (n, comma, (o, e, (p, comma', f))))
 
-  -- a production in two groups, of which the second begins behind the first
+  -- a type and a pointer, taken out of what stands before and behind them
   pointee_of : (t : LlType) (pointer : TypedValue) (tokens a b rest : List Lexeme) → ty names t tokens a → mark 44 a b → typed names pointer b rest → of_pointee t pointer tokens rest
   unfolding ◌>>◌
   pointee_of t pointer tokens a b rest d comma e = (a, d, (b, comma, e))

@@ -91,8 +91,8 @@ fn push_index(indexes: &mut Parts<TypedValue>, index: TypedValue) -> Result<(), 
     }
 }
 
-/// The index behind a comma with which the tokens begin, and the tokens behind it. None exactly where they begin with no comma, or
-/// with one that an attachment's name follows.
+/// The index behind a comma with which the tokens begin, and the tokens behind it. None exactly where they begin with no comma,
+/// or with one that an attachment's name follows.
 fn read_next_index<'t, 'a>(
     alloc: Global,
     tokens: &'t [Token<'a>],

@@ -1,7 +1,6 @@
-ghost use Rattle.std.specs.Prelude.{◌≡◌, false, IsTrue, MatchOption, MatchResult, codes};
+ghost use Rattle.std.specs.Prelude.{◌≡◌, false, IsTrue, MatchResult};
 ghost use Rattle.ll_tokens.specs.Tokens.{lexemes_of};
 ghost use Rattle.ll_parser.specs.GrammarInsts.{alignment};
-ghost use Rattle.ll_parser.specs.Productions.{mark, word};
 ghost use Rattle.ll_parser.specs.Reading.{EndsNowhere};
 ghost use Rattle.ll_operands.specs.Parts.{Begins, Refuses};
 ghost use Rattle.ll_operands.specs.Whole.{align_comma};

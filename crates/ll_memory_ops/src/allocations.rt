@@ -4,7 +4,15 @@ ghost use Rattle.ll_tree.specs.declared.op.Op.TheVariants as op;
 ghost use Rattle.ll_parser.specs.NameReading.{ReadsWith};
 ghost use Rattle.ll_operands.specs.Parts.{Refuses};
 ghost use Rattle.ll_memory_ops.specs.declared.opcodes.MemoryOpcode.TheVariants as opcode;
-ghost use Rattle.ll_memory_ops.specs.AllocationParts.{alloca_part, count_here, count_part, extent, extent_inside, extent_inside_part, extent_part};
+ghost use Rattle.ll_memory_ops.specs.AllocationParts.{
+  alloca_part,
+  count_here,
+  count_part,
+  extent,
+  extent_inside,
+  extent_inside_part,
+  extent_part,
+};
 ghost use Rattle.ll_memory_ops.specs.MemoryOperations.{behind};
 
 use crate::alignments::read_align;

@@ -49,7 +49,8 @@ pub struct ExchangeOrders {
     pub unequal: Order,
 }
 
-/// A `cmpxchg`: a pointer, a comparator and a new value, a scope where it stands, two orders and an alignment (LLVM 14, `cmpxchg`).
+/// A `cmpxchg`: a pointer, a comparator and a new value, a scope where it stands, two orders and an alignment (LLVM 14,
+/// `cmpxchg`).
 pub fn read_exchange<'t, 'a>(
     alloc: Global,
     tokens: &'t [Token<'a>],
@@ -66,7 +67,8 @@ pub fn read_exchange<'t, 'a>(
 }
 
 fn exchange_of(operands: Three, orders: ExchangeOrders, align: Option<u64>) -> Op
-    ensures { result ≡ op.CompareExchange operands.first operands.second operands.third orders.equal.scope orders.equal.order orders.unequal align }
+    ensures { result ≡ op.CompareExchange operands.first operands.second operands.third orders.equal.scope orders.equal.order
+        orders.unequal align }
 {
     let ExchangeOrders { equal, unequal } = orders;
     let ScopedOrder { scope, order } = equal;
@@ -95,7 +97,8 @@ fn read_exchange_orders<'t, 'a>(
     Ok((ExchangeOrders { equal, unequal }, rest))
 }
 
-/// An `atomicrmw`: an operation, a pointer and an operand, a scope where it stands, an order and an alignment (LLVM 14, `atomicrmw`).
+/// An `atomicrmw`: an operation, a pointer and an operand, a scope where it stands, an order and an alignment (LLVM 14,
+/// `atomicrmw`).
 pub fn read_update<'t, 'a>(
     alloc: Global,
     tokens: &'t [Token<'a>],

@@ -6,8 +6,8 @@ use sqlite_items::Items;
 use std::alloc::Global;
 use std::test::Fail;
 
-/// What reading comes to: the instruction, four numbers of it and how many tokens are left, or the rule that is broken and how
-/// many tokens are left.
+/// What reading comes to: the instruction, some numbers that it holds and how many tokens are left, or the rule that is broken and
+/// how many tokens are left.
 #[derive(Clone, Copy, Debug, PartialEq, Eq)]
 enum Outcome {
     Read(&'static str, [i128; 4], usize),
@@ -52,7 +52,8 @@ fn rank(order: Order) -> i128 {
     }
 }
 
-/// The count, and -1 where there is none, whether it stands, and the alignment of an allocation; and those of accesses.
+/// The instruction with its numbers, in the order in which they are written: 1 for `volatile` and `inbounds`, the pointers of a
+/// type, the values, the length of the scope, the rank of an order, the alignment, and how many indexes there are.
 fn shape(op: &Op, left: usize) -> Outcome {
     match op {
         Op::Alloca { ty, count, align } => {
@@ -62,7 +63,7 @@ fn shape(op: &Op, left: usize) -> Outcome {
             };
             Read(
                 "alloca",
-                [number, bytes_of(align), ty.pointers.len() as i128, 0],
+                [ty.pointers.len() as i128, number, bytes_of(align), 0],
                 left,
             )
         }
@@ -75,8 +76,8 @@ fn shape(op: &Op, left: usize) -> Outcome {
             "load",
             [
                 i128::from(*volatile),
-                bytes_of(align),
                 ty.pointers.len() as i128,
+                bytes_of(align),
                 0,
             ],
             left,
@@ -192,21 +193,21 @@ fn outcome_of(alloc: Global, tokens: &[Token<'_>]) -> Outcome {
 }
 
 static READ: [(&str, Outcome); 21] = [
-    ("alloca i32", Read("alloca", [-1, -1, 0, 0], 0)),
-    ("alloca i32*, align 8", Read("alloca", [-1, 8, 1, 0], 0)),
+    ("alloca i32", Read("alloca", [0, -1, -1, 0], 0)),
+    ("alloca i32*, align 8", Read("alloca", [1, -1, 8, 0], 0)),
     (
         "alloca i32, i64 -3, align 4",
-        Read("alloca", [-3, 4, 0, 0], 0),
+        Read("alloca", [0, -3, 4, 0], 0),
     ),
     (
         "alloca i32, i64 7, !dbg !1",
-        Read("alloca", [7, -1, 0, 0], 3),
+        Read("alloca", [0, 7, -1, 0], 3),
     ),
-    ("alloca i32, !dbg !1", Read("alloca", [-1, -1, 0, 0], 3)),
-    ("load i32, i32* %p", Read("load", [0, -1, 0, 0], 0)),
+    ("alloca i32, !dbg !1", Read("alloca", [0, -1, -1, 0], 3)),
+    ("load i32, i32* %p", Read("load", [0, 0, -1, 0], 0)),
     (
         "load volatile i8*, i8** %p, align 8, !dbg !1",
-        Read("load", [1, 8, 1, 0], 3),
+        Read("load", [1, 1, 8, 0], 3),
     ),
     ("store i32 5, i32* %p", Read("store", [0, 5, 0, -1], 0)),
     (

@@ -1,11 +1,11 @@
 use Rattle.std.proofs.lemmas.Result.{err_from_is_err_and}
 use Rattle.ll_types.proofs.MembersRead.{derived}
 use Rattle.ll_operands.specs.Parts.{◌then◌}
-use Rattle.ll_memory_ops.proofs.OrdersRead.{scoped_is_part}
+use Rattle.ll_memory_ops.specs.AccessParts.{alignment_part, pointee, pointee_part}
 use Rattle.ll_memory_ops.specs.OrderParts.{scoped_order_part}
 use Rattle.ll_memory_ops.proofs.AccessesRead.{atomic_load_read, pointee_is_part}
 use Rattle.ll_memory_ops.proofs.OperationsRead.{told_first, told_middle, told_third}
-use Rattle.ll_memory_ops.specs.AccessParts.{alignment_part, pointee, pointee_part}
+use Rattle.ll_memory_ops.proofs.OrdersRead.{scoped_is_part}
 use Rattle.ll_memory_ops.proofs.accesses.read_atomic_load.Goals as goal
 
 pub returns-in_err-source : goal.returns-in_err-source

@@ -3,11 +3,11 @@ use Rattle.ll_types.proofs.MembersRead.{derived}
 use Rattle.ll_operands.specs.Operands.{two, two_part}
 use Rattle.ll_operands.specs.Parts.{◌then◌}
 use Rattle.ll_operands.proofs.OperandFacts.{two_is_part}
-use Rattle.ll_memory_ops.proofs.OrdersRead.{scoped_is_part}
-use Rattle.ll_memory_ops.specs.OrderParts.{scoped_order_part}
-use Rattle.ll_memory_ops.proofs.OperationsRead.{told_first, told_middle, told_third}
 use Rattle.ll_memory_ops.specs.AccessParts.{alignment_part}
+use Rattle.ll_memory_ops.specs.OrderParts.{scoped_order_part}
 use Rattle.ll_memory_ops.proofs.AccessesRead.{atomic_store_read}
+use Rattle.ll_memory_ops.proofs.OperationsRead.{told_first, told_middle, told_third}
+use Rattle.ll_memory_ops.proofs.OrdersRead.{scoped_is_part}
 use Rattle.ll_memory_ops.proofs.accesses.read_atomic_store.Goals as goal
 
 pub returns-in_err-operands : goal.returns-in_err-operands

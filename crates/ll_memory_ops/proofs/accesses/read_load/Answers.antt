@@ -3,10 +3,10 @@ use Rattle.std.proofs.lemmas.Result.{err_from_is_err_and}
 use Rattle.ll_parser.specs.Productions.{word}
 use Rattle.ll_operands.specs.Parts.{word_part, ◌then◌}
 use Rattle.ll_operands.proofs.Readings.{second_refused}
-use Rattle.ll_memory_ops.proofs.OperationsRead.{either_told, other_told}
-use Rattle.ll_memory_ops.proofs.AccessesRead.{atomic_behind}
-use Rattle.ll_memory_ops.specs.AccessParts.{atomic_load_part, plain_load_part}
 use Rattle.ll_memory_ops.specs.declared.opcodes.MemoryOpcode.TheVariants as opcode
+use Rattle.ll_memory_ops.specs.AccessParts.{atomic_load_part, plain_load_part}
+use Rattle.ll_memory_ops.proofs.AccessesRead.{atomic_behind}
+use Rattle.ll_memory_ops.proofs.OperationsRead.{either_told, other_told}
 use Rattle.ll_memory_ops.proofs.accesses.read_load.Goals as goal
 
 pub returns-in_err-operation-in-Ok : goal.returns-in_err-operation-in-Ok

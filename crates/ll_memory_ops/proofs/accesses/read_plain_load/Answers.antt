@@ -1,8 +1,8 @@
 use Rattle.std.proofs.Common.{codes}
 use Rattle.std.proofs.lemmas.Result.{err_from_is_err_and}
 use Rattle.ll_types.proofs.MembersRead.{derived}
-use Rattle.ll_memory_ops.proofs.AccessesRead.{load_read, pointee_is_part}
 use Rattle.ll_memory_ops.specs.AccessParts.{align_part, if_word_part, pointee, pointee_part}
+use Rattle.ll_memory_ops.proofs.AccessesRead.{load_read, pointee_is_part}
 use Rattle.ll_memory_ops.proofs.OperationsRead.{if_word_is_part, told_middle, told_third}
 use Rattle.ll_memory_ops.proofs.accesses.read_plain_load.Goals as goal
 

@@ -4,8 +4,8 @@ use Rattle.ll_types.proofs.MembersRead.{derived}
 use Rattle.ll_operands.specs.Operands.{two, two_part}
 use Rattle.ll_operands.proofs.OperandFacts.{two_is_part}
 use Rattle.ll_memory_ops.specs.AccessParts.{align_part, if_word_part}
-use Rattle.ll_memory_ops.proofs.OperationsRead.{if_word_is_part, told_middle, told_third}
 use Rattle.ll_memory_ops.proofs.AccessesRead.{store_read}
+use Rattle.ll_memory_ops.proofs.OperationsRead.{if_word_is_part, told_middle, told_third}
 use Rattle.ll_memory_ops.proofs.accesses.read_plain_store.Goals as goal
 
 pub returns-in_err-operands : goal.returns-in_err-operands

@@ -1,11 +1,11 @@
 use Rattle.std.proofs.Common.{inl, inr}
 use Rattle.std.proofs.lemmas.Result.{err_from_is_err_and}
 use Rattle.ll_types.specs.TypeParts.{ty_here}
-use Rattle.ll_operands.proofs.Readings.{any_read, mark_refused, told_refusal, type_refused, typed_refused}
 use Rattle.ll_operands.specs.Parts.{mark_part, type_part, typed_part, ◌then◌}
+use Rattle.ll_operands.proofs.Readings.{any_read, mark_refused, told_refusal, type_refused, typed_refused}
+use Rattle.ll_memory_ops.specs.AccessParts.{pointee_part}
 use Rattle.ll_memory_ops.proofs.AccessesRead.{pointee_read}
 use Rattle.ll_memory_ops.proofs.OperationsRead.{told_first, told_third}
-use Rattle.ll_memory_ops.specs.AccessParts.{pointee_part}
 use Rattle.ll_memory_ops.proofs.accesses.read_pointee.Goals as goal
 
 pub returns-in_err-ty : goal.returns-in_err-ty

@@ -1,11 +1,11 @@
 use Rattle.std.proofs.Common.{codes}
 use Rattle.std.proofs.lemmas.Result.{err_from_is_err_and}
 use Rattle.ll_types.proofs.MembersRead.{derived}
-use Rattle.ll_memory_ops.specs.AddressParts.{indexes_part}
 use Rattle.ll_memory_ops.specs.AccessParts.{if_word_part, pointee, pointee_part}
-use Rattle.ll_memory_ops.proofs.OperationsRead.{if_word_is_part, told_middle, told_third}
-use Rattle.ll_memory_ops.proofs.AddressesRead.{address_read}
+use Rattle.ll_memory_ops.specs.AddressParts.{indexes_part}
 use Rattle.ll_memory_ops.proofs.AccessesRead.{pointee_is_part}
+use Rattle.ll_memory_ops.proofs.AddressesRead.{address_read}
+use Rattle.ll_memory_ops.proofs.OperationsRead.{if_word_is_part, told_middle, told_third}
 use Rattle.ll_memory_ops.proofs.addresses.read_address.Goals as goal
 
 pub returns-in_err-base : goal.returns-in_err-base

@@ -1,10 +1,10 @@
 use Rattle.std.proofs.Common.{inl}
 use Rattle.std.proofs.lemmas.Result.{err_from_is_err_and}
-use Rattle.ll_operands.proofs.Readings.{mark_refused, told_refusal, typed_refused}
 use Rattle.ll_operands.specs.Parts.{mark_part, typed_part}
-use Rattle.ll_memory_ops.proofs.OperationsRead.{told_second}
+use Rattle.ll_operands.proofs.Readings.{mark_refused, told_refusal, typed_refused}
 use Rattle.ll_memory_ops.specs.AddressParts.{index_part}
 use Rattle.ll_memory_ops.proofs.AddressesRead.{index_read}
+use Rattle.ll_memory_ops.proofs.OperationsRead.{told_second}
 use Rattle.ll_memory_ops.proofs.addresses.read_index.Goals as goal
 
 pub returns-in_err-inside : goal.returns-in_err-inside

@@ -1,9 +1,9 @@
 use Rattle.std.proofs.lemmas.Result.{err_from_is_err_and}
 use Rattle.ll_types.proofs.MembersRead.{derived}
 use Rattle.ll_operands.specs.Parts.{operand_comma, repeated}
-use Rattle.ll_memory_ops.proofs.OperationsRead.{told_first, told_second}
-use Rattle.ll_memory_ops.proofs.AddressesRead.{index_is_part, indexes_read}
 use Rattle.ll_memory_ops.specs.AddressParts.{index, index_part}
+use Rattle.ll_memory_ops.proofs.AddressesRead.{index_is_part, indexes_read}
+use Rattle.ll_memory_ops.proofs.OperationsRead.{told_first, told_second}
 use Rattle.ll_memory_ops.proofs.addresses.read_indexes.Goals as goal
 
 pub returns-in_err-first : goal.returns-in_err-first

@@ -1,10 +1,10 @@
-use Rattle.std.proofs.lemmas.Result.{err_from_is_err_and}
 use Rattle.std.proofs.Common.{refl}
-use Rattle.ll_operands.proofs.ItemsRead.{item_fewer, none_yet, one_more, repeated_refused, so_far_times}
+use Rattle.std.proofs.lemmas.Result.{err_from_is_err_and}
 use Rattle.ll_operands.specs.Parts.{operand_comma, repeated}
+use Rattle.ll_operands.proofs.ItemsRead.{item_fewer, none_yet, one_more, repeated_refused, so_far_times}
 use Rattle.ll_operands.proofs.Readings.{told_as}
-use Rattle.ll_memory_ops.proofs.AddressesRead.{index_is_part, index_shortens, more_read}
 use Rattle.ll_memory_ops.specs.AddressParts.{index, index_part}
+use Rattle.ll_memory_ops.proofs.AddressesRead.{index_is_part, index_shortens, more_read}
 use Rattle.ll_memory_ops.proofs.addresses.read_more_indexes.Goals as goal
 
 pub loop-indexes-init : goal.loop-indexes-init

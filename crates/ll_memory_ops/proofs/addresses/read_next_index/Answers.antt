@@ -1,7 +1,7 @@
 use Rattle.std.proofs.lemmas.Result.{err_from_is_err_and}
 use Rattle.ll_operands.specs.Parts.{operand_comma}
-use Rattle.ll_memory_ops.proofs.OperationsRead.{optional_told}
 use Rattle.ll_memory_ops.specs.AddressParts.{index_part}
+use Rattle.ll_memory_ops.proofs.OperationsRead.{optional_told}
 use Rattle.ll_memory_ops.proofs.addresses.read_next_index.Goals as goal
 
 pub returns-in_err-index-in-Some : goal.returns-in_err-index-in-Some

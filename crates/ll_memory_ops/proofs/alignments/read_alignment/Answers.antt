@@ -1,9 +1,9 @@
 use Rattle.std.proofs.Common.{codes, inl, inr}
 use Rattle.std.proofs.lemmas.Result.{err_from_is_err_and}
 use Rattle.ll_operands.proofs.Readings.{mark_refused, told_refusal, word_refused}
-use Rattle.ll_memory_ops.proofs.OperationsRead.{number_refused}
-use Rattle.ll_memory_ops.proofs.AccessesRead.{alignment_read}
 use Rattle.ll_memory_ops.specs.AccessParts.{alignment_part}
+use Rattle.ll_memory_ops.proofs.AccessesRead.{alignment_read}
+use Rattle.ll_memory_ops.proofs.OperationsRead.{number_refused}
 use Rattle.ll_memory_ops.proofs.alignments.read_alignment.Goals as goal
 
 pub returns-in_err-behind : goal.returns-in_err-behind

@@ -1,10 +1,10 @@
 use Rattle.std.proofs.lemmas.Result.{err_from_is_err_and}
 use Rattle.ll_types.specs.TypeParts.{ty_here}
-use Rattle.ll_operands.proofs.Readings.{any_read, type_refused}
 use Rattle.ll_operands.specs.Parts.{type_part}
-use Rattle.ll_memory_ops.proofs.OperationsRead.{told_first, told_second}
+use Rattle.ll_operands.proofs.Readings.{any_read, type_refused}
 use Rattle.ll_memory_ops.specs.AllocationParts.{extent_part}
 use Rattle.ll_memory_ops.proofs.AllocationsRead.{alloca_read}
+use Rattle.ll_memory_ops.proofs.OperationsRead.{told_first, told_second}
 use Rattle.ll_memory_ops.proofs.allocations.read_allocation.Goals as goal
 
 pub returns-in_err-ty : goal.returns-in_err-ty

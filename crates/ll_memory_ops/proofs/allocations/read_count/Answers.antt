@@ -1,9 +1,9 @@
-use Rattle.std.proofs.lemmas.Int.{to_z-of_z}
-use Rattle.std.proofs.Common.{FitsSigned, inr, rules}
 use Rattle.std.specs.Int.{w128}
+use Rattle.std.proofs.Common.{FitsSigned, inr, rules}
+use Rattle.std.proofs.lemmas.Int.{to_z-of_z}
 use Rattle.std.proofs.lemmas.Result.{err_from_is_err_and}
-use Rattle.ll_types.proofs.MembersRead.{derived}
 use Rattle.ll_types.specs.TypeParts.{ty_here}
+use Rattle.ll_types.proofs.MembersRead.{derived}
 use Rattle.ll_operands.proofs.Readings.{told_as, told_refusal, type_refused, type_refused_first}
 use Rattle.ll_memory_ops.specs.AllocationParts.{count_part, integer_part}
 use Rattle.ll_memory_ops.proofs.AllocationsRead.{count_read, integer_refused}

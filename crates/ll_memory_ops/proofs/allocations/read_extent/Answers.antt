@@ -1,9 +1,9 @@
 use Rattle.std.proofs.lemmas.Result.{err_from_is_err_and}
 use Rattle.ll_operands.specs.Parts.{mark_part, operand_comma, ◌then◌}
 use Rattle.ll_operands.proofs.Readings.{second_refused}
-use Rattle.ll_memory_ops.proofs.OperationsRead.{optional_told}
-use Rattle.ll_memory_ops.proofs.AllocationsRead.{extent_read, nothing_read}
 use Rattle.ll_memory_ops.specs.AllocationParts.{extent_inside_part}
+use Rattle.ll_memory_ops.proofs.AllocationsRead.{extent_read, nothing_read}
+use Rattle.ll_memory_ops.proofs.OperationsRead.{optional_told}
 use Rattle.ll_memory_ops.proofs.allocations.read_extent.Goals as goal
 
 pub returns-in_err-extent-in-Some : goal.returns-in_err-extent-in-Some

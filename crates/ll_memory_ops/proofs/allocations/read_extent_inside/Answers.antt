@@ -2,12 +2,12 @@ use Rattle.std.proofs.Common.{codes, inl, inr}
 use Rattle.std.proofs.lemmas.Result.{err_from_is_err_and}
 use Rattle.ll_parser.specs.Productions.{word}
 use Rattle.ll_types.proofs.MembersRead.{derived}
-use Rattle.ll_operands.proofs.Readings.{first_refused, second_refused, told_refusal}
 use Rattle.ll_operands.specs.Parts.{number_part, word_part, ◌then◌}
+use Rattle.ll_operands.proofs.Readings.{first_refused, second_refused, told_refusal}
+use Rattle.ll_memory_ops.specs.AccessParts.{align_part}
+use Rattle.ll_memory_ops.specs.AllocationParts.{count_here, count_part, extent_inside_part}
 use Rattle.ll_memory_ops.proofs.AllocationsRead.{alone_read, count_is_part, counted_read}
 use Rattle.ll_memory_ops.proofs.OperationsRead.{number_refused, other_told}
-use Rattle.ll_memory_ops.specs.AllocationParts.{count_here, count_part, extent_inside_part}
-use Rattle.ll_memory_ops.specs.AccessParts.{align_part}
 use Rattle.ll_memory_ops.proofs.allocations.read_extent_inside.Goals as goal
 
 pub returns-in_err-bytes-in-Ok : goal.returns-in_err-bytes-in-Ok

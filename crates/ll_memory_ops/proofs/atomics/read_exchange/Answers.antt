@@ -1,12 +1,12 @@
 use Rattle.std.proofs.lemmas.Result.{err_from_is_err_and}
 use Rattle.ll_types.proofs.MembersRead.{derived}
-use Rattle.ll_operands.proofs.OperandFacts.{three_is_part}
-use Rattle.ll_operands.specs.Parts.{◌then◌}
 use Rattle.ll_operands.specs.Operands.{three, three_part}
+use Rattle.ll_operands.specs.Parts.{◌then◌}
+use Rattle.ll_operands.proofs.OperandFacts.{three_is_part}
+use Rattle.ll_memory_ops.specs.AccessParts.{align_part}
 use Rattle.ll_memory_ops.specs.AtomicParts.{exchange_orders_part}
 use Rattle.ll_memory_ops.proofs.AtomicsRead.{exchange_orders_are_part, exchange_read}
 use Rattle.ll_memory_ops.proofs.OperationsRead.{told_first, told_middle, told_third}
-use Rattle.ll_memory_ops.specs.AccessParts.{align_part}
 use Rattle.ll_memory_ops.proofs.atomics.read_exchange.Goals as goal
 
 pub returns-in_err-operands : goal.returns-in_err-operands

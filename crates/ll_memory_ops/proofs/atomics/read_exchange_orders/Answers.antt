@@ -3,10 +3,10 @@ use Rattle.std.proofs.lemmas.Result.{err_from_is_err_and}
 use Rattle.ll_parser.specs.GrammarInsts.{order_word}
 use Rattle.ll_operands.proofs.Readings.{told_refusal}
 use Rattle.ll_memory_ops.specs.AtomicParts.{exchange_orders_part}
-use Rattle.ll_memory_ops.proofs.OrdersRead.{one_word_refused, scoped_is_part}
 use Rattle.ll_memory_ops.specs.OrderParts.{order_part, scoped_order_part}
 use Rattle.ll_memory_ops.proofs.AtomicsRead.{exchange_orders_read}
 use Rattle.ll_memory_ops.proofs.OperationsRead.{told_first}
+use Rattle.ll_memory_ops.proofs.OrdersRead.{one_word_refused, scoped_is_part}
 use Rattle.ll_memory_ops.proofs.atomics.read_exchange_orders.Goals as goal
 
 pub returns-in_err-equal : goal.returns-in_err-equal

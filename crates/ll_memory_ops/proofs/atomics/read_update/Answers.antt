@@ -2,16 +2,16 @@ use Rattle.std.proofs.Common.{inl}
 use Rattle.std.proofs.lemmas.Result.{err_from_is_err_and}
 use Rattle.ll_parser.specs.GrammarInsts.{rmw_word}
 use Rattle.ll_types.proofs.MembersRead.{derived}
-use Rattle.ll_operands.proofs.Readings.{first_refused, second_refused, told_refusal}
 use Rattle.ll_operands.specs.Operands.{two, two_part}
 use Rattle.ll_operands.specs.Parts.{one_word, ◌then◌}
 use Rattle.ll_operands.proofs.OperandFacts.{two_is_part}
-use Rattle.ll_memory_ops.proofs.AtomicsRead.{update_read}
-use Rattle.ll_memory_ops.specs.AtomicParts.{update_part}
-use Rattle.ll_memory_ops.proofs.OrdersRead.{one_word_refused, scoped_is_part}
-use Rattle.ll_memory_ops.specs.OrderParts.{scoped_order_part}
-use Rattle.ll_memory_ops.proofs.OperationsRead.{told_middle, told_third}
+use Rattle.ll_operands.proofs.Readings.{first_refused, second_refused, told_refusal}
 use Rattle.ll_memory_ops.specs.AccessParts.{align_part}
+use Rattle.ll_memory_ops.specs.AtomicParts.{update_part}
+use Rattle.ll_memory_ops.specs.OrderParts.{scoped_order_part}
+use Rattle.ll_memory_ops.proofs.AtomicsRead.{update_read}
+use Rattle.ll_memory_ops.proofs.OperationsRead.{told_middle, told_third}
+use Rattle.ll_memory_ops.proofs.OrdersRead.{one_word_refused, scoped_is_part}
 use Rattle.ll_memory_ops.proofs.atomics.read_update.Goals as goal
 
 pub returns-in_err-kind : goal.returns-in_err-kind

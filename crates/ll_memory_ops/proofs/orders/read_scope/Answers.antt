@@ -1,8 +1,8 @@
 use Rattle.std.proofs.Common.{codes}
 use Rattle.std.proofs.lemmas.Result.{err_from_is_err_and}
 use Rattle.ll_parser.specs.Productions.{word}
-use Rattle.ll_memory_ops.proofs.OperationsRead.{optional_told}
 use Rattle.ll_memory_ops.specs.OrderParts.{written_scope_part}
+use Rattle.ll_memory_ops.proofs.OperationsRead.{optional_told}
 use Rattle.ll_memory_ops.proofs.OrdersRead.{no_scope, scope_read}
 use Rattle.ll_memory_ops.proofs.orders.read_scope.Goals as goal
 

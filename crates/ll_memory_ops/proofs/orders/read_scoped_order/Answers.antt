@@ -2,9 +2,9 @@ use Rattle.std.proofs.Common.{inr}
 use Rattle.std.proofs.lemmas.Result.{err_from_is_err_and}
 use Rattle.ll_parser.specs.GrammarInsts.{order_word}
 use Rattle.ll_operands.proofs.Readings.{told_refusal}
-use Rattle.ll_memory_ops.proofs.OrdersRead.{one_word_refused, scope_is_part, scoped_read}
 use Rattle.ll_memory_ops.specs.OrderParts.{order_part, scope_part, scoped_order_part}
 use Rattle.ll_memory_ops.proofs.OperationsRead.{told_first}
+use Rattle.ll_memory_ops.proofs.OrdersRead.{one_word_refused, scope_is_part, scoped_read}
 use Rattle.ll_memory_ops.proofs.orders.read_scoped_order.Goals as goal
 
 pub returns-in_err-scope : goal.returns-in_err-scope

@@ -1,10 +1,10 @@
 use Rattle.std.proofs.Common.{codes, inl, inr}
 use Rattle.std.proofs.lemmas.Result.{err_from_is_err_and}
-use Rattle.ll_operands.proofs.Readings.{first_refused, mark_refused, told_refusal, word_refused}
 use Rattle.ll_operands.specs.Parts.{mark_part, word_part, ◌then◌}
-use Rattle.ll_memory_ops.proofs.OrdersRead.{any_text_read, written_read}
+use Rattle.ll_operands.proofs.Readings.{first_refused, mark_refused, told_refusal, word_refused}
 use Rattle.ll_memory_ops.specs.OrderParts.{text_part, written_scope_part}
 use Rattle.ll_memory_ops.proofs.OperationsRead.{told_third}
+use Rattle.ll_memory_ops.proofs.OrdersRead.{any_text_read, written_read}
 use Rattle.ll_memory_ops.proofs.orders.read_written_scope.Goals as goal
 
 pub returns-in_err-behind : goal.returns-in_err-behind
