@@ -7,7 +7,7 @@ use std::test::Fail;
 /// What reading comes to: how many tokens are left and the next number, or the rule that is broken and how many are left then.
 #[derive(Clone, Copy, Debug, PartialEq, Eq)]
 enum Outcome {
-    Left(usize, u32),
+    Left(usize, usize),
     Refused(u16, usize),
     NoMemory,
 }
@@ -25,7 +25,7 @@ fn inst_outcome(alloc: Global, tokens: &[Token<'_>]) -> Outcome {
     let mut names = NameTable::new(alloc);
     let mut next = 3;
     match read_inst(alloc, tokens, &mut names, &mut next) {
-        Ok((_inst, rest)) => Left(rest.len(), next),
+        Ok((_inst, rest)) => Left(rest.len(), next as usize),
         Err(error) => refused(error),
     }
 }
@@ -34,7 +34,7 @@ fn inst_outcome(alloc: Global, tokens: &[Token<'_>]) -> Outcome {
 fn blocks_outcome(alloc: Global, tokens: &[Token<'_>]) -> Outcome {
     let mut names = NameTable::new(alloc);
     match read_blocks(alloc, tokens, &mut names, 0) {
-        Ok((blocks, rest)) => Left(rest.len(), blocks.labels.len() as u32),
+        Ok((blocks, rest)) => Left(rest.len(), blocks.labels.len()),
         Err(error) => refused(error),
     }
 }
@@ -47,7 +47,7 @@ static INSTS: [(&str, Outcome); 10] = [
     ("call i32 @f()", Left(0, 4)),
     ("store i8 1, i8* %p", Left(0, 3)),
     ("ret void", Left(0, 3)),
-    ("%x = store i8 1, i8* %p", Refused(3, 6)),
+    ("%x = store i8 1, i8* %p", Refused(3, 7)),
     ("%x = ret void", Refused(3, 2)),
     ("%x = fadd float 1, 2", Refused(3, 5)),
 ];
