@@ -1,6 +1,6 @@
 -- Translations lead back.
 use Rattle.std.proofs.Common.{◌≡◌, ℕ, ◌+◌, ◌*◌, ◌≤◌, List, None, length, refl, sym, ◌∙◌, ap, subst, arith}
-use Rattle.spv_build.specs.NameRules.{names_fault}
+use Rattle.spv_names.specs.NameRules.{names_fault}
 use Rattle.spv_codec.specs.declared.module.RawModule.{RawModule}
 use Rattle.spv_codec.specs.Framing.{IsSpirv, module_words}
 use Rattle.spv_module.specs.Sections.{flattened}

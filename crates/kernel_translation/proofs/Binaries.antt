@@ -8,7 +8,7 @@ use Rattle.kernel_tree.specs.Canonical.{aligned, canonical, inst_aligned, inst_n
 use Rattle.kernel_tree.specs.Covered.{is_covered}
 use Rattle.kernel_tree.specs.Modules.{text_module}
 use Rattle.kernel_tree.specs.Numbered.{IsNumbered}
-use Rattle.spv_build.specs.NameRules.{names_fault}
+use Rattle.spv_names.specs.NameRules.{names_fault}
 use Rattle.spv_codec.specs.declared.module.RawInst.{RawInst}
 use Rattle.spv_codec.specs.declared.module.RawModule.{RawModule}
 use Rattle.spv_codec.specs.Framing.{IsRight, module_words}

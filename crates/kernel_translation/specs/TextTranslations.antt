@@ -1,7 +1,7 @@
 -- What the text of a binary is, and that translations lead back to where they come from.
 use Rattle.std.specs.Prelude.{◌≡◌, ℕ, ◌≤◌, List, None, Some, length}
 use Rattle.ports.specs.declared.faults.SpvFault.{SpvFault}
-use Rattle.spv_build.specs.NameRules.{names_fault}
+use Rattle.spv_names.specs.NameRules.{names_fault}
 use Rattle.spv_codec.specs.declared.module.RawModule.{RawModule}
 use Rattle.spv_codec.specs.Framing.{IsFramingFault, IsSpirv}
 use Rattle.spv_words.specs.declared.words.Order.{Order}

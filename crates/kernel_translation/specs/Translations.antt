@@ -13,7 +13,7 @@ use Rattle.kernel_tree.specs.Canonical.{canonical}
 use Rattle.kernel_tree.specs.Covered.{first_undefined, is_covered}
 use Rattle.kernel_tree.specs.Modules.{text_module}
 use Rattle.kernel_tree.specs.Text.{kernel_text}
-use Rattle.spv_build.specs.NameRules.{names_fault}
+use Rattle.spv_names.specs.NameRules.{names_fault}
 use Rattle.spv_codec.specs.declared.module.RawModule.{RawModule}
 use Rattle.spv_codec.specs.Framing.{IsSpirv, module_words}
 use Rattle.spv_canon.specs.Canonical.{canonical_spirv}

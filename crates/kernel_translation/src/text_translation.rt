@@ -1,5 +1,5 @@
 ghost use Rattle.std.specs.Prelude.{◌≡◌, ◌≤◌, None, length, IfOk, MatchOption, MatchResult};
-ghost use Rattle.spv_build.specs.NameRules.{names_fault};
+ghost use Rattle.spv_names.specs.NameRules.{names_fault};
 ghost use Rattle.kernel_translation.specs.TextTranslations.{HasNoText, IsModuleText, IsNamesBreak, IsTextTranslationAndBack, IsUntranslatedBinary};
 
 use crate::decoded::module_of;
@@ -7,7 +7,7 @@ use crate::error::BinaryError;
 use crate::translation::MAX_BYTES;
 use kernel_printer::print_kernel;
 use ports::{OutOfMemory, SpvError};
-use spv_build::names_fault;
+use spv_names::names_fault;
 use spv_codec::RawModule;
 use std::alloc::Global;
 use to_llvm::to_llvm;

@@ -7,6 +7,7 @@ use Rattle.spv_words.specs.declared.words.Order.{Order}
 use Rattle.spv_codec.specs.Framing.{IsFramingFault}
 use Rattle.kt_driver.specs.BinaryListings.{IsBinaryListing}
 use Rattle.kt_driver.specs.Listings.{IsListing, IsListingFault}
+use Rattle.ll_texts.specs.TextFaults.{IsModuleInput, IsTextFault}
 use Rattle.kernel_translation.specs.Translations.{IsOutside, IsUndefinedIn}
 use Rattle.kernel_translation.specs.TextTranslations.{IsInvalidBinary, IsOutsideBinary, IsTextTranslationAndBack, IsTranslationAndBack}
 use Rattle.kt_driver.specs.Requests.{input_format}
@@ -41,9 +42,9 @@ IsAnswer (Show from) input bytes = IsListed from input bytes
 abbrev pub IsUntranslatable : Order → List ℕ → Refusal → Type 0
 IsUntranslatable order input (TooLong format) = ⊥
 IsUntranslatable order input (UndefinedName byte) = IsUndefinedIn input byte
-IsUntranslatable order input (Outside Llvm) = IsOutside order input
+IsUntranslatable order input (Outside Llvm) = IsModuleInput input × IsOutside order input
 IsUntranslatable order input (Outside Spirv) = ⊥
-IsUntranslatable order input (Unreadable fault) = ⊥
+IsUntranslatable order input (Unreadable fault) = IsTextFault input fault
 IsUntranslatable order input (Misframed fault) = ⊥
 IsUntranslatable order input (Invalid fault) = ⊥
 

@@ -14,7 +14,7 @@ pub enum Refusal {
     UndefinedName { byte: u64 },
     /// The input, which has this format, is outside the covered subset in another way.
     Outside(Format),
-    /// The text can't be cut into tokens.
+    /// The text isn't of the grammar, or can't be cut into tokens where only these are asked for.
     Unreadable(LlFault),
     /// The bytes break a rule of a binary's framing.
     Misframed(SpvFault),

@@ -1,4 +1,5 @@
 ghost use Rattle.std.specs.Prelude.{◌<◌, ◌≤◌, ◌^◌, length};
+ghost use Rattle.ll_texts.specs.TextFaults.{IsModuleInput};
 ghost use Rattle.kt_driver.specs.Runs.{IsRefusal, IsReply, Replies, ReplyHasCause};
 
 use crate::binary_listing::binary_listing;
@@ -6,6 +7,7 @@ use crate::listing::listing;
 use crate::refusals::Refusal;
 use crate::request::{Format, Request};
 use kernel_translation::{BinaryError, MAX_BYTES, TranslateError, translate, translate_binary};
+use ll_texts::text_fault;
 use ports::{LlError, ReadAllError, Source, SpvError, read_all};
 use spv_words::Order;
 use std::alloc::Global;
@@ -65,8 +67,20 @@ fn reply_on(alloc: Global, request: Request, input: &[u8]) -> Result<Reply, Repl
     }
 }
 
-/// The reply to the translation of a text.
+/// The reply to the translation of a text: a rule of the grammar is told before those of the translation.
 fn translated(alloc: Global, input: &[u8], order: Order) -> Result<Reply, ReplyError>
+    ensures { IsReply (Request.Translate Format.Llvm Format.Spirv order) input.now result }
+{
+    match text_fault(alloc, input) {
+        Ok(None) => module_translated(alloc, input, order),
+        Ok(Some(fault)) => refuse(alloc, Refusal::Unreadable(fault)),
+        Err(_no_memory) => Err(ReplyError::NoMemory),
+    }
+}
+
+/// The reply to the translation of a module's text.
+fn module_translated(alloc: Global, input: &[u8], order: Order) -> Result<Reply, ReplyError>
+    requires { IsModuleInput input.now }
     ensures { IsReply (Request.Translate Format.Llvm Format.Spirv order) input.now result }
 {
     match translate(alloc, input, order) {

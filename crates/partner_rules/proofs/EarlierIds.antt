@@ -15,12 +15,12 @@ use Rattle.kernel_tree.specs.declared.kernel.KernelInst.TheVariants.{Add, Load, 
 use Rattle.kernel_tree.specs.declared.kernel.KernelParam.{KernelParam}
 use Rattle.to_spirv.specs.Partner.{entry_partner, inst_partner, param_partner}
 use Rattle.to_spirv.proofs.SectionLemmas.{block_insts, front_insts, function_inst, tail_of}
-use Rattle.spv_build.specs.Definitions.{defines, result_of}
-use Rattle.spv_build.specs.IdRules.{is_declarations, is_defined, is_defined_later, uses_later}
-use Rattle.spv_build.specs.Places.{places_behind}
-use Rattle.spv_build.specs.SectionOrder.{has_begun, rank_behind, rank_in}
-use Rattle.spv_build.specs.Standing.{standing_of}
-use Rattle.spv_build.specs.Uses.{form_ids, uses_of}
+use Rattle.spv_names.specs.Definitions.{defines, result_of}
+use Rattle.spv_names.specs.IdRules.{is_declarations, is_defined, is_defined_later, uses_later}
+use Rattle.spv_sections.specs.Places.{places_behind}
+use Rattle.spv_sections.specs.SectionOrder.{has_begun, rank_behind, rank_in}
+use Rattle.spv_sections.specs.Standing.{standing_of}
+use Rattle.spv_names.specs.Uses.{form_ids, uses_of}
 use Rattle.partner_rules.specs.Laws.{DeclarationsUseEarlierIds}
 use Rattle.partner_rules.proofs.Each.{Each, each-placed, none-more, none-weaker}
 use Rattle.partner_rules.proofs.ModuleParts.{IdsOf, Needed, Neither, ParamInt, ParamPointer, ResultInt, ids_for, types_for, IsBefore, each-tail, insts_by, of-listed}

@@ -14,10 +14,10 @@ use Rattle.kernel_tree.specs.declared.kernel.KernelParam.{KernelParam}
 use Rattle.to_spirv.specs.ClosedTypes.{ids_by, needed_where}
 use Rattle.to_spirv.specs.Partner.{end_of_block, inst_partner, param_partner, partner}
 use Rattle.to_spirv.proofs.SectionLemmas.{block_insts, function_inst, label_inst, tail_of}
-use Rattle.spv_build.specs.declared.functions.Part.TheVariants as part
-use Rattle.spv_build.specs.Functions.{Shape, function_list, function_parts, function_section, part_of, parts_of, put_part}
-use Rattle.spv_build.specs.Standing.{begins_functions, standing_of}
-use Rattle.spv_build.proofs.FunctionLists.{functions-listed}
+use Rattle.spv_names.specs.declared.functions.Part.TheVariants as part
+use Rattle.spv_names.specs.Functions.{Shape, function_list, function_parts, function_section, part_of, parts_of, put_part}
+use Rattle.spv_sections.specs.Standing.{begins_functions, standing_of}
+use Rattle.spv_names.proofs.FunctionLists.{functions-listed}
 use Rattle.partner_rules.specs.Laws.{FunctionsAreListed}
 use Rattle.partner_rules.proofs.Sectioned.{insts_of, of-sections}
 

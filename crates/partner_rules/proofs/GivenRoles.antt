@@ -11,10 +11,10 @@ use Rattle.kernel_tree.specs.declared.kernel.KernelInst.{KernelInst}
 use Rattle.kernel_tree.specs.declared.kernel.KernelInst.TheVariants.{Add, Load, Store}
 use Rattle.kernel_tree.specs.declared.kernel.KernelParam.{KernelParam}
 use Rattle.to_spirv.specs.Partner.{id_of, inst_partner, param_partner}
-use Rattle.spv_build.specs.declared.asks.Ask.{Ask}
-use Rattle.spv_build.specs.declared.asks.Ask.TheVariants as ask
-use Rattle.spv_build.specs.Definitions.{defines, definition_of, entry_of, result_of}
-use Rattle.spv_build.specs.RoleRules.{differs, has_other_role, is_asked, is_entry, is_outside, role_of}
+use Rattle.spv_names.specs.declared.asks.Ask.{Ask}
+use Rattle.spv_names.specs.declared.asks.Ask.TheVariants as ask
+use Rattle.spv_names.specs.Definitions.{defines, definition_of, entry_of, result_of}
+use Rattle.spv_names.specs.RoleRules.{differs, has_other_role, is_asked, is_entry, is_outside, role_of}
 use Rattle.partner_rules.proofs.Each.{Each, each-placed, never}
 use Rattle.partner_rules.proofs.ModuleParts.{Needed, Neither, ParamInt, ParamPointer, ResultInt, ids_for, types_for, each-part, insts_by}
 

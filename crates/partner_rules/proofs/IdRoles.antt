@@ -16,11 +16,11 @@ use Rattle.kernel_tree.specs.Names.{used_by, uses}
 use Rattle.to_spirv.specs.Limits.{HasPlainName}
 use Rattle.to_spirv.specs.Partner.{end_of_block, entry_partner, id_of, inst_partner, param_partner, value_type_id}
 use Rattle.to_spirv.proofs.SectionLemmas.{function_inst, label_inst}
-use Rattle.spv_build.specs.declared.asks.Ask.TheVariants as ask
-use Rattle.spv_build.specs.declared.asks.Asks.TheVariants.{Each as EachAsk}
-use Rattle.spv_build.specs.Places.{places_behind}
-use Rattle.spv_build.specs.RoleRules.{asks_of, has_other_role, have_other_role, misuses}
-use Rattle.spv_build.specs.Uses.{form_ids}
+use Rattle.spv_names.specs.declared.asks.Ask.TheVariants as ask
+use Rattle.spv_names.specs.declared.asks.Asks.TheVariants.{Each as EachAsk}
+use Rattle.spv_sections.specs.Places.{places_behind}
+use Rattle.spv_names.specs.RoleRules.{asks_of, has_other_role, have_other_role, misuses}
+use Rattle.spv_names.specs.Uses.{form_ids}
 use Rattle.partner_rules.specs.Laws.{IdsHaveTheirRoles, IsValueOf}
 use Rattle.partner_rules.proofs.Each.{Each, each-placed}
 use Rattle.partner_rules.proofs.ModuleParts.{Needed, Neither, ParamInt, ParamPointer, ResultInt, ids_for, types_for, GivesListed, IsBefore, IsListed, TakesBefore, each-part, insts_by, of-listed}

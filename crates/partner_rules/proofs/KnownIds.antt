@@ -18,12 +18,12 @@ use Rattle.to_spirv.specs.Partner.{bound_of, inst_partner, param_partner, partne
 use Rattle.to_spirv.proofs.SectionLemmas.{block_insts, tail_of}
 use Rattle.spv_module.specs.Spelled.{param_spelled}
 use Rattle.spv_module.specs.Woven.{inst_spelled}
-use Rattle.spv_build.specs.declared.definitions.Definition.{Definition}
-use Rattle.spv_build.specs.Definitions.{defines, entry_from, entry_of, function_after, function_behind, home_of, result_of}
-use Rattle.spv_build.specs.IdRules.{are_apart, is_elsewhere, is_outside, uses_unknown}
-use Rattle.spv_build.specs.Places.{places_behind}
-use Rattle.spv_build.specs.Uses.{form_ids}
-use Rattle.spv_build.proofs.Defined.{function-more}
+use Rattle.spv_names.specs.declared.definitions.Definition.{Definition}
+use Rattle.spv_names.specs.Definitions.{defines, entry_from, entry_of, function_after, function_behind, home_of, result_of}
+use Rattle.spv_names.specs.IdRules.{are_apart, is_elsewhere, is_outside, uses_unknown}
+use Rattle.spv_sections.specs.Places.{places_behind}
+use Rattle.spv_names.specs.Uses.{form_ids}
+use Rattle.spv_names.proofs.Defined.{function-more}
 use Rattle.partner_rules.specs.Laws.{IdsAreKnown}
 use Rattle.partner_rules.proofs.Each.{Each, never, none-weaker}
 use Rattle.partner_rules.proofs.ModuleParts.{IdsOf, Needed, Neither, ParamInt, ParamPointer, ResultInt, ids_for, each-tail, insts_by, of-listed}

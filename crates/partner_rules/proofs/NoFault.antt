@@ -11,11 +11,11 @@ use Rattle.kernel_tree.specs.Covered.{is_covered}
 use Rattle.kernel_tree.specs.Numbered.{IsNumbered}
 use Rattle.to_spirv.specs.Limits.{HasPlainName}
 use Rattle.to_spirv.specs.Partner.{partner}
-use Rattle.spv_build.specs.Functions.{function_places}
-use Rattle.spv_build.specs.IdRules.{bound_places, later_places, twice_places, unknown_places}
-use Rattle.spv_build.specs.NameRules.{fault_of, names_fault, rule_at}
-use Rattle.spv_build.specs.RoleRules.{role_places}
-use Rattle.spv_build.specs.SectionOrder.{section_places}
+use Rattle.spv_names.specs.Functions.{function_places}
+use Rattle.spv_names.specs.IdRules.{bound_places, later_places, twice_places, unknown_places}
+use Rattle.spv_names.specs.NameRules.{fault_of, names_fault, rule_at}
+use Rattle.spv_names.specs.RoleRules.{role_places}
+use Rattle.spv_sections.specs.SectionOrder.{section_places}
 use Rattle.partner_rules.specs.Laws.{NamesBreakNoRule, UsesValues}
 use Rattle.partner_rules.proofs.EarlierIds.{partner-earlier}
 use Rattle.partner_rules.proofs.FunctionParts.{partner-listed}

@@ -12,9 +12,9 @@ use Rattle.to_spirv.specs.Partner.{bound_of, partner}
 use Rattle.kernel_tree.specs.declared.kernel.Kernel.{Kernel}
 use Rattle.kernel_tree.specs.Numbered.{IsNumbered}
 use Rattle.to_spirv.proofs.OrderLemmas.{ids-in_order}
-use Rattle.spv_build.specs.Definitions.{defines, result_of}
-use Rattle.spv_build.specs.IdRules.{defines_again, is_defined, is_result}
-use Rattle.spv_build.specs.Places.{place_if, places_behind}
+use Rattle.spv_names.specs.Definitions.{defines, result_of}
+use Rattle.spv_names.specs.IdRules.{defines_again, is_defined, is_result}
+use Rattle.spv_sections.specs.Places.{place_if, places_behind}
 use Rattle.spv_codec.specs.Ids.{is_id}
 use Rattle.partner_rules.specs.Laws.{IdsAreDefinedOnce}
 use Rattle.partner_rules.proofs.Places.{no-place}

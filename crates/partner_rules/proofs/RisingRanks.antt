@@ -17,10 +17,10 @@ use Rattle.kernel_tree.specs.declared.kernel.KernelParam.{KernelParam}
 use Rattle.to_spirv.specs.ClosedTypes.{ids_by, needed_where}
 use Rattle.to_spirv.specs.Partner.{end_of_block, inst_partner, param_partner, partner}
 use Rattle.to_spirv.proofs.SectionLemmas.{block_insts, label_inst, tail_of}
-use Rattle.spv_build.specs.Places.{place_if, places_behind}
-use Rattle.spv_build.specs.SectionOrder.{gives_again, has_begun, is_later, is_misplaced, is_model, rank_behind, rank_in, ranks}
-use Rattle.spv_build.specs.Standing.{begins_functions, standing_of}
-use Rattle.spv_build.proofs.Ranks.{ranks-more}
+use Rattle.spv_sections.specs.Places.{place_if, places_behind}
+use Rattle.spv_sections.specs.SectionOrder.{gives_again, has_begun, is_later, is_misplaced, is_model, rank_behind, rank_in, ranks}
+use Rattle.spv_sections.specs.Standing.{begins_functions, standing_of}
+use Rattle.spv_sections.proofs.Ranks.{ranks-more}
 use Rattle.partner_rules.specs.Laws.{SectionsAreInOrder}
 use Rattle.partner_rules.proofs.Places.{no-place}
 use Rattle.partner_rules.proofs.Sectioned.{insts_of, of-sections}

@@ -20,7 +20,7 @@ use Rattle.to_spirv.specs.Limits.{HasPlainName}
 use Rattle.to_spirv.specs.Partner.{entry_partner}
 use Rattle.to_spirv.proofs.TextLemmas.{text-are_words}
 use Rattle.to_spirv.proofs.Utf8Lemmas.{utf8-bytes}
-use Rattle.spv_build.specs.Uses.{behind_reading, form_ids, is_dropped, has_wide, uses_of}
+use Rattle.spv_names.specs.Uses.{behind_reading, form_ids, is_dropped, has_wide, uses_of}
 use Rattle.partner_rules.proofs.Each.{Each, each-behind, each-front}
 use Rattle.partner_rules.proofs.ModuleParts.{IdsOf, Needed, Neither, ParamInt, ParamPointer, ResultInt, ids_for}
 

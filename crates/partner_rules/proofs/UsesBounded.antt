@@ -17,8 +17,8 @@ use Rattle.kernel_tree.specs.Numbered.{IsNumbered, definition_count, number_used
 use Rattle.to_spirv.specs.Limits.{HasPlainName}
 use Rattle.to_spirv.specs.Partner.{bound_over, end_of_block, entry_partner, id_of, inst_partner, param_partner, value_type_id}
 use Rattle.to_spirv.proofs.SectionLemmas.{function_inst, label_inst}
-use Rattle.spv_build.specs.IdRules.{is_outside}
-use Rattle.spv_build.specs.Uses.{form_ids}
+use Rattle.spv_names.specs.IdRules.{is_outside}
+use Rattle.spv_names.specs.Uses.{form_ids}
 use Rattle.partner_rules.proofs.Each.{Each, none-more, none-of}
 use Rattle.partner_rules.proofs.ModuleParts.{Needed, Neither, ParamInt, ParamPointer, ResultInt, ids_for, types_for, GivesListed, IsBefore, IsListed, TakesBefore, each-part, insts_by}
 use Rattle.partner_rules.proofs.UsedIds.{are-ids, each-uses, entry-ids}

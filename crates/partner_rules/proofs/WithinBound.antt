@@ -9,10 +9,10 @@ use Rattle.kernel_tree.specs.declared.kernel.Kernel.{Kernel}
 use Rattle.kernel_tree.specs.Numbered.{IsNumbered}
 use Rattle.to_spirv.specs.Limits.{HasPlainName}
 use Rattle.to_spirv.specs.Partner.{bound_of, partner}
-use Rattle.spv_build.specs.Definitions.{result_of}
-use Rattle.spv_build.specs.IdRules.{has_outside, is_outside, is_result}
-use Rattle.spv_build.specs.Places.{places_behind}
-use Rattle.spv_build.specs.Uses.{form_ids, uses_of}
+use Rattle.spv_names.specs.Definitions.{result_of}
+use Rattle.spv_names.specs.IdRules.{has_outside, is_outside, is_result}
+use Rattle.spv_sections.specs.Places.{places_behind}
+use Rattle.spv_names.specs.Uses.{form_ids, uses_of}
 use Rattle.partner_rules.specs.Laws.{IdsAreWithinBound}
 use Rattle.partner_rules.proofs.Each.{Each, each-placed}
 use Rattle.partner_rules.proofs.ModuleParts.{of-listed}

@@ -8,11 +8,11 @@ use Rattle.kernel_tree.specs.Numbered.{IsNumbered, number_used}
 use Rattle.spv_module.specs.Sections.{flattened}
 use Rattle.to_spirv.specs.Limits.{HasPlainName}
 use Rattle.to_spirv.specs.Partner.{partner}
-use Rattle.spv_build.specs.Functions.{function_places}
-use Rattle.spv_build.specs.IdRules.{bound_places, later_places, twice_places, unknown_places}
-use Rattle.spv_build.specs.NameRules.{names_fault}
-use Rattle.spv_build.specs.RoleRules.{role_places}
-use Rattle.spv_build.specs.SectionOrder.{section_places}
+use Rattle.spv_names.specs.Functions.{function_places}
+use Rattle.spv_names.specs.IdRules.{bound_places, later_places, twice_places, unknown_places}
+use Rattle.spv_names.specs.NameRules.{names_fault}
+use Rattle.spv_names.specs.RoleRules.{role_places}
+use Rattle.spv_sections.specs.SectionOrder.{section_places}
 
 abbrev pub FunctionsAreListed : Type 0
 FunctionsAreListed = (kernel : Kernel) (words : ℕ) → function_places (flattened (partner kernel)).insts words ≡ []

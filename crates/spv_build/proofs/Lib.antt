@@ -1,8 +1,7 @@
-pub mod Defined
-pub mod Found
-pub mod FunctionLists
-pub mod FunctionFronts
-pub mod Ranks
-pub mod Scans
-pub mod UseLists
-pub mod WideLemmas
+pub mod KeptLists
+pub mod TextLemmas
+pub mod ModeLists
+pub mod ReadBack
+pub mod SpelledAgain
+pub mod FunctionsBack
+pub mod FitsForm

@@ -1,107 +1,72 @@
--- The places at which the function section is no list of functions (SPIR-V 1.2, 2.4 "Logical Layout of a Module").
-use Rattle.std.specs.Prelude.{◌≡◌, ℕ, Bool, true, false, not, if◌then◌else◌, List, [], ◌∷◌, ◌++◌, flat_map, replicate, Option, Some, None}
+-- The functions that the instructions of the function section say, each with its body (SPIR-V 1.2, 2.4 "Logical Layout of a Module").
+use Rattle.std.specs.Prelude.{ℕ, Bool, List, [], ◌∷◌, ◌++◌, map, slice_get, unwrap_or}
+use Rattle.std.specs.Option.{option_to_list}
+use Rattle.inst_walk.specs.declared.body.Block.{Block}
+use Rattle.inst_walk.specs.declared.body.Body.{Body}
 use Rattle.spv_codec.specs.declared.module.RawInst.{RawInst}
-use Rattle.spv_layout.specs.declared.opcode.Opcode.{Opcode}
-use Rattle.spv_layout.specs.declared.opcode.Opcode.TheVariants as op
-use Rattle.spv_layout.specs.Forms.{opcode_of}
-use Rattle.spv_build.specs.declared.functions.Part.{Part}
-use Rattle.spv_build.specs.declared.functions.Part.TheVariants as part
-use Rattle.spv_build.specs.declared.functions.Position.{Position}
-use Rattle.spv_build.specs.declared.functions.Position.TheVariants as position
-use Rattle.spv_build.specs.declared.standing.Section.TheVariants as section
-use Rattle.spv_build.specs.declared.standing.Standing.{Standing}
-use Rattle.spv_build.specs.declared.standing.Standing.TheVariants.{LastTwo, In}
-use Rattle.spv_build.specs.Places.{place_if}
-use Rattle.spv_build.specs.Standing.{standing_of, begins_functions}
+use Rattle.spv_module.specs.declared.inst.SpvInst.{SpvInst}
+use Rattle.spv_module.specs.declared.module.Function.{Function}
+use Rattle.spv_module.specs.declared.module.Param.{Param}
+use Rattle.spv_names.specs.declared.functions.Part.{Part}
+use Rattle.spv_names.specs.declared.functions.Part.TheVariants as part
+use Rattle.spv_names.specs.Functions.{part_of}
+use Rattle.spv_build.specs.declared.functions.FunctionsSoFar.{FunctionsSoFar}
+use Rattle.spv_build.specs.declared.functions.Head.{Head}
+use Rattle.spv_build.specs.Insts.{inst_of}
+use Rattle.spv_build.specs.Items.{param_of}
 
--- whether an instruction of this standing may stand inside a block
-abbrev pub may_stand : Standing → Bool
-may_stand (In section.Functions) = true
-may_stand LastTwo = true
-may_stand standing = false
+-- a word of an instruction, 0 where it has none there
+abbrev pub operand_at : RawInst → ℕ → ℕ
+operand_at inst index = unwrap_or (slice_get inst.operands index) 0
 
--- what an instruction is in a function, where it may stand inside a block or not
-abbrev pub part_at : Bool → Option Opcode → Part
-part_at inner (Some op.Nop) = part.Floating
-part_at inner (Some op.Line) = part.Floating
-part_at inner (Some op.NoLine) = part.Floating
-part_at inner (Some op.Function) = part.Start
-part_at inner (Some op.FunctionParameter) = part.Parameter
-part_at inner (Some op.FunctionEnd) = part.End
-part_at inner (Some op.Label) = part.Label
-part_at inner (Some op.Branch) = part.Terminator
-part_at inner (Some op.BranchConditional) = part.Terminator
-part_at inner (Some op.Switch) = part.Terminator
-part_at inner (Some op.Return) = part.Terminator
-part_at inner (Some op.ReturnValue) = part.Terminator
-part_at inner (Some op.Unreachable) = part.Terminator
-part_at true opcode = part.Inner
-part_at false opcode = part.Stray
+-- what an OpFunction says: the type of the result, the id, and behind hints for inlining the type
+abbrev pub head_of : RawInst → Head
+head_of inst = record { result = operand_at inst 0; id = operand_at inst 1; ty = operand_at inst 3; place = inst.place }
 
-unfoldable pub part_of : RawInst → Part
-part_of inst = part_at (may_stand (standing_of inst)) (opcode_of inst.op)
+abbrev pub param_id : Param → ℕ
+param_id param = param.id
 
--- the instructions from the first one on that belongs to the functions
-abbrev pub function_section : List RawInst → List RawInst
-function_section [] = []
-function_section (inst ∷ insts) = if begins_functions inst then inst ∷ insts else function_section insts
+abbrev pub function_of : FunctionsSoFar → Function
+function_of s = record {
+  id = s.head.id;
+  result = s.head.result;
+  ty = s.head.ty;
+  params = s.params;
+  labels = s.labels;
+  place = s.head.place;
+}
 
--- where one stands behind a part: `None` where the part doesn't fit
-abbrev pub position_behind : Position → Part → Option Position
-position_behind position part.Floating = Some position
-position_behind position.Outside part.Start = Some position.Heading
-position_behind position.Heading part.Parameter = Some position.Heading
-position_behind position.Heading part.Label = Some position.Block
-position_behind position.Block part.Inner = Some position.Block
-position_behind position.Block part.Terminator = Some position.BetweenBlocks
-position_behind position.BetweenBlocks part.Label = Some position.Block
-position_behind position.BetweenBlocks part.End = Some position.Outside
-position_behind position part = None
+abbrev pub body_of : FunctionsSoFar → Body SpvInst ℕ
+body_of s = record { params = map param_id s.params; blocks = s.blocks }
 
-abbrev pub is_outside_functions : Position → Bool
-is_outside_functions position.Outside = true
-is_outside_functions position = false
+abbrev pub block_of : FunctionsSoFar → SpvInst → Block SpvInst ℕ
+block_of s last = record { name = s.label; insts = s.insts ++ last ∷ [] }
 
--- what follows from a position that there is, or this place
-abbrev pub places_from : ℕ → (Position → List ℕ) → Option Position → List ℕ
-places_from place rest None = place ∷ []
-places_from place rest (Some position) = rest position
+-- one instruction more, by what it is in a function, where literal numbers take two words or one: an OpFunction begins a function, a label
+-- a block, a terminator ends the block, and an OpFunctionEnd the function
+abbrev pub behind_part : Part → Bool → FunctionsSoFar → RawInst → FunctionsSoFar
+behind_part part.Start wide s inst = record s { head = head_of inst; params = []; labels = []; blocks = [] }
+behind_part part.Parameter wide s inst = record s { params = s.params ++ option_to_list (param_of inst) }
+behind_part part.Label wide s inst = record s { labels = s.labels ++ inst.place ∷ []; label = operand_at inst 0; insts = [] }
+behind_part part.Inner wide s inst = record s { insts = s.insts ++ inst_of wide inst ∷ [] }
+behind_part part.Terminator wide s inst = record s { blocks = s.blocks ++ block_of s (inst_of wide inst) ∷ []; insts = [] }
+behind_part part.End wide s inst = record s { functions = s.functions ++ function_of s ∷ []; bodies = s.bodies ++ body_of s ∷ []; params = []; labels = []; blocks = [] }
+behind_part part wide s inst = s
 
--- the first place that doesn't fit, from a position on, in a module of so many words
-abbrev pub misfits : ℕ → List RawInst → Position → List ℕ
-misfits words [] position = place_if (not (is_outside_functions position)) words
-misfits words (inst ∷ insts) position = places_from inst.place (misfits words insts) (position_behind position (part_of inst))
+module _ (is_wide : RawInst → Bool) where
+  abbrev pub behind_inst : FunctionsSoFar → RawInst → FunctionsSoFar
+  behind_inst s inst = behind_part (part_of inst) (is_wide inst) s inst
 
--- the first instruction of the function section with which it begins no list of functions, or the number of words, where it is none
-abbrev pub function_places : List RawInst → ℕ → List ℕ
-function_places insts words = misfits words (function_section insts) position.Outside
+  abbrev pub behind_insts : FunctionsSoFar → List RawInst → FunctionsSoFar
+  behind_insts s [] = s
+  behind_insts s (inst ∷ insts) = behind_insts (behind_inst s inst) insts
 
--- a function by how many parameters it has, and how many instructions each block has between its label and its terminator
-pub record Shape : Type 0 where
-  pub params : ℕ
-  pub first : ℕ
-  pub others : List ℕ
+abbrev pub no_head : Head
+no_head = record { result = 0; id = 0; ty = 0; place = 0 }
 
-abbrev pub block_parts : ℕ → List Part
-block_parts count = part.Label ∷ (replicate count part.Inner ++ part.Terminator ∷ [])
+abbrev pub no_functions : FunctionsSoFar
+no_functions = record { functions = []; bodies = []; head = no_head; params = []; labels = []; blocks = []; label = 0; insts = [] }
 
-abbrev pub function_parts : Shape → List Part
-function_parts shape =
-    part.Start ∷ (replicate shape.params part.Parameter ++ (block_parts shape.first ++ (flat_map block_parts shape.others ++ part.End ∷ [])))
-
-abbrev pub function_list : List Shape → List Part
-function_list shapes = flat_map function_parts shapes
-
--- a part before others, but for what may stand anywhere
-abbrev pub put_part : Part → List Part → List Part
-put_part part.Floating parts = parts
-put_part part parts = part ∷ parts
-
--- what instructions are in functions, but for those that may stand anywhere
-abbrev pub parts_of : List RawInst → List Part
-parts_of [] = []
-parts_of (inst ∷ insts) = put_part (part_of inst) (parts_of insts)
-
--- whether some parts stand at the front of a list of functions
-abbrev pub Begins : List Part → Type 0
-Begins parts = (rest : List Part) × (shapes : List Shape) × (parts ++ rest ≡ function_list shapes)
+-- what the instructions of a function section say, in a module that tells which of them have literal numbers of two words
+unfoldable pub read_functions : (RawInst → Bool) → List RawInst → FunctionsSoFar
+read_functions is_wide insts = behind_insts is_wide no_functions insts

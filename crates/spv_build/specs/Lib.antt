@@ -1,11 +1,8 @@
-pub mod Definitions
+pub mod Answers
+pub mod Entries
 pub mod Functions
-pub mod IdRules
+pub mod Insts
+pub mod Items
+pub mod Kept
 pub mod Laws
-pub mod NameRules
-pub mod Places
-pub mod RoleRules
-pub mod SectionOrder
-pub mod Standing
-pub mod Uses
-pub mod Widths
+pub mod Modules

@@ -1,19 +1,34 @@
-//! What holds of every list of instructions: the contracts of these functions, which do nothing.
+//! What follows of the definitions: the contracts of these functions, which do nothing.
 
-ghost use Rattle.spv_build.specs.Laws.{FunctionsAreListed, MisfitIsFirst, UnfinishedIsAtTheEnd};
+ghost use Rattle.spv_build.specs.Laws.{BuiltModulesAreOne, BuiltOrRefused, DecodedInstructionsAreSpelledAgain, FunctionsAreReadBack, InstructionsAreSpelledAgain, ItemsAreReadBack};
 
-/// The function section breaks no rule of its form exactly where it is a list of functions, each with its parameters, one block or more,
-/// each of which begins with a label and ends with one terminator, and its end.
-pub fn functions_are_listed()
-    ensures { FunctionsAreListed }
+/// A binary has one module at most.
+pub fn built_modules_are_one()
+    ensures { BuiltModulesAreOne }
 {}
 
-/// The place that is told of the function section is that of the first instruction with which it no longer begins a list of functions.
-pub fn misfit_is_first()
-    ensures { MisfitIsFirst }
+/// No binary has a module and is refused.
+pub fn built_or_refused()
+    ensures { BuiltOrRefused }
 {}
 
-/// Where the function section begins a list of functions but is none, the place that is told is the number of words.
-pub fn unfinished_is_at_the_end()
-    ensures { UnfinishedIsAtTheEnd }
+/// What an item is spelled as is read as that item.
+pub fn items_are_read_back()
+    ensures { ItemsAreReadBack }
+{}
+
+/// An instruction of a function body whose words have each operand of its form is spelled again as it was read.
+pub fn instructions_are_spelled_again()
+    ensures { InstructionsAreSpelledAgain }
+{}
+
+/// What functions without places, each with its body, are spelled as is read as these functions, where each instruction is one that stands
+/// inside a block or ends it.
+pub fn functions_are_read_back()
+    ensures { FunctionsAreReadBack }
+{}
+
+/// An instruction of a decoded binary is spelled again as it was read, where its form has operands of one word each, but for the last.
+pub fn decoded_instructions_are_spelled_again()
+    ensures { DecodedInstructionsAreSpelledAgain }
 {}

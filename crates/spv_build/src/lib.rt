@@ -1,25 +1,23 @@
-//! From the instructions of a binary to its module: which rules of section order and of ids they break (SPIR-V 1.2, 2.4 "Logical Layout
-//! of a Module" and 2.16.1 "Universal Validation Rules").
+//! From the instructions of a SPIR-V binary to its module (SPIR-V 1.2, 2.4 "Logical Layout of a Module").
 #![tactic(auto)]
 
-mod asks;
-mod definitions;
-mod dropped;
-mod faults;
+mod building;
+mod entries;
 mod functions;
-mod id_rules;
+mod globals;
+mod insts;
+mod items;
+mod kept;
 mod laws;
-mod places;
-mod role_rules;
-mod section_order;
-mod standing;
-mod uses;
-mod widths;
+mod modules;
+mod readers;
+mod texts;
 
-pub use faults::names_fault;
-pub use laws::{functions_are_listed, misfit_is_first, unfinished_is_at_the_end};
-pub use section_order::section_fault;
-pub use standing::{Section, Standing, standing_of};
+pub use building::build;
+pub use laws::{
+    built_modules_are_one, built_or_refused, decoded_instructions_are_spelled_again,
+    functions_are_read_back, instructions_are_spelled_again, items_are_read_back,
+};
 
 #[cfg(test)]
 mod tests;

@@ -1,3 +1,3 @@
-//! Which rule small modules break, and where.
+//! Which modules small binaries become.
 
 mod kernels;

@@ -1,17 +1,19 @@
-use crate::faults::names_fault;
+use crate::building::build;
 use ports::{SpvError, SpvFault};
-use spv_codec::{RawModule, SpvDecoder};
+use spv_codec::{RawInst, RawModule, SpvDecoder};
+use spv_module::{SpvModule, flatten};
 use spv_words::{Order, put_words};
 use std::alloc::Global;
 use std::test::Fail;
 
-/// The words of a kernel that adds its second argument to the number that its first argument points to.
-static FIRST_KERNEL: [u32; 62] = [
+/// The words of a kernel with a packed struct, an array, a mode, a switch and a phi. Its ids rise in the order of the declarations.
+static BRANCHES: [u32; 92] = [
     0x0723_0203,
     0x0001_0200,
     0,
-    11,
+    15,
     0,
+    // Capabilities, memory model, entry point, mode, decoration.
     0x0002_0011,
     4,
     0x0002_0011,
@@ -21,384 +23,196 @@ static FIRST_KERNEL: [u32; 62] = [
     2,
     0x0004_000F,
     6,
-    5,
-    0x61,
+    13,
+    0x6B,
+    0x0006_0010,
+    13,
+    17,
+    1,
+    1,
+    1,
+    0x0003_0047,
+    4,
+    10,
+    // Void, i32, the constant 7, a struct, an array, a pointer, a vector, a function.
     0x0002_0013,
     1,
     0x0004_0015,
     2,
-    0x20,
+    32,
     0,
-    0x0004_0020,
+    0x0004_002B,
+    2,
     3,
+    7,
+    0x0004_001E,
+    4,
+    2,
+    2,
+    0x0004_001C,
     5,
     2,
-    0x0005_0021,
-    4,
-    1,
     3,
+    0x0004_0020,
+    6,
+    5,
+    4,
+    0x0004_0017,
+    7,
     2,
+    4,
+    0x0004_0021,
+    8,
+    1,
+    2,
+    // The function: three blocks.
     0x0005_0036,
     1,
-    5,
+    13,
     0,
-    4,
-    0x0003_0037,
-    3,
-    6,
-    0x0003_0037,
-    2,
-    7,
-    0x0002_00F8,
     8,
-    0x0006_003D,
+    0x0003_0037,
     2,
     9,
-    6,
-    2,
-    4,
-    0x0005_0080,
-    2,
+    0x0002_00F8,
     10,
+    0x0005_00FB,
     9,
-    7,
-    0x0005_003E,
-    6,
-    10,
+    11,
+    1,
+    12,
+    0x0002_00F8,
+    11,
+    0x0002_00F9,
+    12,
+    0x0002_00F8,
+    12,
+    0x0007_00F5,
     2,
-    4,
+    14,
+    9,
+    10,
+    3,
+    11,
     0x0001_00FD,
     0x0001_0038,
+    // A line, a name and a decoration without a meaning follow for the test that puts them in.
+    0x0001_013D,
+    0x0003_0005,
+    2,
+    0x61,
+    0x0003_0047,
+    9,
+    19,
 ];
 
-/// The kernel with some words changed and others put in, and the rule that it then breaks, with its place.
-struct Case {
-    edits: &'static [(usize, u32)],
-    at: usize,
-    inserted: &'static [u32],
-    told: Option<(u16, u64)>,
-}
-
-static CASES: [Case; 33] = [
-    Case {
-        edits: &[],
-        at: 62,
-        inserted: &[],
-        told: None,
-    },
-    // A type before the memory model, none at all, two of them, and an import behind a type.
-    Case {
-        edits: &[(7, 0x0002_0013)],
-        at: 62,
-        inserted: &[],
-        told: Some((14, 9)),
-    },
-    Case {
-        edits: &[(9, 0x0001_0000), (10, 0x0001_0000), (11, 0x0001_0000)],
-        at: 62,
-        inserted: &[],
-        told: Some((14, 62)),
-    },
-    Case {
-        edits: &[],
-        at: 12,
-        inserted: &[0x0003_000E, 2, 2],
-        told: Some((14, 12)),
-    },
-    Case {
-        edits: &[],
-        at: 31,
-        inserted: &[0x0003_0005, 1, 0x61],
-        told: Some((14, 31)),
-    },
-    // A line stands behind types, and not before them.
-    Case {
-        edits: &[],
-        at: 31,
-        inserted: &[0x0001_013D],
-        told: None,
-    },
-    Case {
-        edits: &[],
-        at: 9,
-        inserted: &[0x0001_013D],
-        told: Some((14, 10)),
-    },
-    // An id at the bound, the id 0, an id that is defined twice.
-    Case {
-        edits: &[(3, 10)],
-        at: 62,
-        inserted: &[],
-        told: Some((20, 50)),
-    },
-    Case {
-        edits: &[(52, 0)],
-        at: 62,
-        inserted: &[],
-        told: Some((20, 50)),
-    },
-    Case {
-        edits: &[(41, 6)],
-        at: 62,
-        inserted: &[],
-        told: Some((21, 39)),
-    },
-    // An id that is defined nowhere, and the label of another function.
-    Case {
-        edits: &[(3, 13), (54, 12)],
-        at: 62,
-        inserted: &[],
-        told: Some((22, 50)),
-    },
-    Case {
-        edits: &[(3, 15)],
-        at: 62,
-        inserted: &[
-            0x0005_0036,
-            1,
-            11,
-            0,
-            4,
-            0x0003_0037,
-            3,
-            12,
-            0x0003_0037,
-            2,
-            13,
-            0x0002_00F8,
-            14,
-            0x0002_00F9,
-            8,
-            0x0001_0038,
-        ],
-        told: Some((22, 75)),
-    },
-    Case {
-        edits: &[(3, 15)],
-        at: 62,
-        inserted: &[
-            0x0005_0036,
-            1,
-            11,
-            0,
-            4,
-            0x0003_0037,
-            3,
-            12,
-            0x0003_0037,
-            2,
-            13,
-            0x0002_00F8,
-            14,
-            0x0002_00F9,
-            14,
-            0x0001_0038,
-        ],
-        told: None,
-    },
-    // A type as a value, and a parameter as the function of an entry point.
-    Case {
-        edits: &[(53, 2)],
-        at: 62,
-        inserted: &[],
-        told: Some((23, 50)),
-    },
-    Case {
-        edits: &[(14, 6)],
-        at: 62,
-        inserted: &[],
-        told: Some((23, 12)),
-    },
-    // A pointer to a type that stands below, and to itself.
-    Case {
-        edits: &[(25, 4)],
-        at: 62,
-        inserted: &[],
-        told: Some((24, 22)),
-    },
-    Case {
-        edits: &[(25, 3)],
-        at: 62,
-        inserted: &[],
-        told: Some((24, 22)),
-    },
-    // A function without its end, and a block without its terminator.
-    Case {
-        edits: &[(61, 0x0001_0000)],
-        at: 62,
-        inserted: &[],
-        told: Some((25, 62)),
-    },
-    Case {
-        edits: &[(60, 0x0001_0000)],
-        at: 62,
-        inserted: &[],
-        told: Some((25, 61)),
-    },
-    // Of two rules at one place the lesser one.
-    Case {
-        edits: &[(3, 13), (53, 2), (54, 12)],
-        at: 62,
-        inserted: &[],
-        told: Some((22, 50)),
-    },
-    // What a dropped instruction uses isn't looked at: a name, and a decoration without a meaning. An alignment is looked at.
-    Case {
-        edits: &[],
-        at: 16,
-        inserted: &[0x0003_0005, 99, 0x61],
-        told: None,
-    },
-    Case {
-        edits: &[],
-        at: 16,
-        inserted: &[0x0003_0047, 99, 19],
-        told: None,
-    },
-    Case {
-        edits: &[(3, 100)],
-        at: 16,
-        inserted: &[0x0004_0047, 99, 44, 4],
-        told: Some((22, 16)),
-    },
-    // The file of a source that is kept is looked at, of another one it isn't.
-    Case {
-        edits: &[(3, 12)],
-        at: 16,
-        inserted: &[0x0003_0007, 11, 0x61, 0x0004_0003, 3, 100_000, 11],
-        told: None,
-    },
-    Case {
-        edits: &[(3, 12)],
-        at: 16,
-        inserted: &[0x0003_0007, 11, 0x61, 0x0004_0003, 3, 100_000, 5],
-        told: Some((23, 19)),
-    },
-    Case {
-        edits: &[(3, 12)],
-        at: 16,
-        inserted: &[0x0003_0007, 11, 0x61, 0x0004_0003, 3, 100_001, 5],
-        told: None,
-    },
-    // A mode of an entry point's function, of something else, and one without a meaning.
-    Case {
-        edits: &[],
-        at: 16,
-        inserted: &[0x0006_0010, 5, 17, 1, 1, 1],
-        told: None,
-    },
-    Case {
-        edits: &[],
-        at: 16,
-        inserted: &[0x0006_0010, 8, 17, 1, 1, 1],
-        told: Some((23, 16)),
-    },
-    Case {
-        edits: &[],
-        at: 16,
-        inserted: &[0x0003_0010, 8, 31],
-        told: None,
-    },
-    // The import of a variable of class Input isn't looked at, an export is.
-    Case {
-        edits: &[(3, 13)],
-        at: 16,
-        inserted: &[
-            0x0005_0047,
-            13,
-            41,
-            0x61,
-            1,
-            0x0004_0015,
-            12,
-            32,
-            0,
-            0x0004_0020,
-            11,
-            1,
-            12,
-            0x0004_003B,
-            11,
-            13,
-            1,
-        ],
-        told: Some((20, 29)),
-    },
-    Case {
-        edits: &[(3, 13)],
-        at: 16,
-        inserted: &[
-            0x0005_0047,
-            13,
-            41,
-            0x61,
-            0,
-            0x0004_0015,
-            12,
-            32,
-            0,
-            0x0004_0020,
-            11,
-            1,
-            12,
-            0x0004_003B,
-            11,
-            13,
-            1,
-        ],
-        told: Some((20, 16)),
-    },
-    // The labels of cases of 64 bits.
-    Case {
-        edits: &[(20, 64), (60, 0x0001_0000)],
-        at: 60,
-        inserted: &[0x0006_00FB, 10, 8, 1, 0, 8],
-        told: None,
-    },
-    Case {
-        edits: &[(20, 64), (60, 0x0001_0000)],
-        at: 60,
-        inserted: &[0x0006_00FB, 10, 8, 1, 0, 9],
-        told: Some((23, 60)),
-    },
-];
+/// How many of these words are the kernel's.
+const KERNEL_LEN: usize = 85;
 
 #[test]
-fn each_rule_is_told_at_its_place(rt: HostRuntime) -> Result<(), Fail> {
+fn module_is_spelled_as_it_was(rt: HostRuntime) -> Result<(), Fail> {
     let alloc = rt.alloc();
-    for (number, case) in CASES.iter().enumerate() {
-        let told = told_of(alloc, case)?;
-        assert_eq!(rt; told, case.told, "case {number}");
-    }
+    let raw = decoded(alloc, kernel_words())?;
+    let m = build(alloc, decoded(alloc, kernel_words())?)?;
+    let spelled = flatten(alloc, &m)?;
+    assert!(rt; are_same(raw.insts.as_slice(), spelled.insts.as_slice()));
     Ok(())
 }
 
-/// The rule that is told of a case, and its place.
-fn told_of(alloc: Global, case: &Case) -> Result<Option<(u16, u64)>, SpvError> {
-    let module = module_of(alloc, case)?;
-    match names_fault(alloc, &module)? {
-        Some(SpvFault { rule, word }) => Ok(Some((rule, word))),
-        None => Ok(None),
-    }
+#[test]
+fn dropped_instructions_leave_nothing(rt: HostRuntime) -> Result<(), Fail> {
+    let alloc = rt.alloc();
+    let raw = decoded(alloc, kernel_words())?;
+    let mut words = Vec::from_slice(alloc, part(0, 22))?;
+    words.extend_from_slice(part(86, 92))?;
+    words.extend_from_slice(part(22, 55))?;
+    words.extend_from_slice(part(85, 86))?;
+    words.extend_from_slice(part(55, KERNEL_LEN))?;
+    let m = build(alloc, decoded(alloc, &words)?)?;
+    let spelled = flatten(alloc, &m)?;
+    assert!(rt; are_same(raw.insts.as_slice(), spelled.insts.as_slice()));
+    Ok(())
 }
 
-fn module_of(alloc: Global, case: &Case) -> Result<RawModule, SpvError> {
-    let bytes = put_words(alloc, Order::Little, &words_of(alloc, case)?)?;
+#[test]
+fn parts_are_kept(rt: HostRuntime) -> Result<(), Fail> {
+    let alloc = rt.alloc();
+    let m = build(alloc, decoded(alloc, kernel_words())?)?;
+    assert_eq!(rt; m.types.names().len(), 7);
+    assert_eq!(rt; m.functions.len(), 1);
+    assert_eq!(rt; m.bodies.len(), 1);
+    assert_eq!(rt; entry_modes(&m), 1);
+    assert_eq!(rt; block_count(&m), 3);
+    Ok(())
+}
+
+/// An OpFunctionEnd is missing, and an id is defined twice.
+#[test]
+fn broken_binaries_are_refused(rt: HostRuntime) -> Result<(), Fail> {
+    let alloc = rt.alloc();
+    let unfinished = decoded(alloc, part(0, 84))?;
+    assert_eq!(rt; told(build(alloc, unfinished))?, Some((25, 84)));
+    let mut words = Vec::from_slice(alloc, kernel_words())?;
+    if let Some(word) = words.get_mut(64) {
+        *word = 9;
+    }
+    assert_eq!(rt;
+        told(build(alloc, decoded(alloc, &words)?))?,
+        Some((21, 63))
+    );
+    Ok(())
+}
+
+fn kernel_words() -> &'static [u32] {
+    part(0, KERNEL_LEN)
+}
+
+/// The words from one index up to another.
+fn part(from: usize, to: usize) -> &'static [u32] {
+    let front = &BRANCHES[..to.min(BRANCHES.len())];
+    &front[from.min(front.len())..]
+}
+
+fn decoded(alloc: Global, words: &[u32]) -> Result<RawModule, SpvError> {
+    let bytes = put_words(alloc, Order::Little, words)?;
     let mut decoder = SpvDecoder::new(alloc);
     decoder.feed(&bytes)?;
     decoder.finish()
 }
 
-fn words_of(alloc: Global, case: &Case) -> Result<Vec<u32>, SpvError> {
-    let mut kernel = Vec::from_slice(alloc, &FIRST_KERNEL)?;
-    for (index, word) in case.edits {
-        if let Some(old) = kernel.get_mut(*index) {
-            *old = *word;
+/// Whether two lists of instructions have the same opcodes, places and operands.
+fn are_same(first: &[RawInst], second: &[RawInst]) -> bool {
+    if first.len() != second.len() {
+        return false;
+    }
+    for (left, right) in first.iter().zip(second.iter()) {
+        let same = left.op == right.op && left.place == right.place;
+        if !same || left.operands.as_slice() != right.operands.as_slice() {
+            return false;
         }
     }
-    let (front, back) = kernel.split_at(case.at.min(kernel.len()));
-    let mut words = Vec::from_slice(alloc, front)?;
-    words.extend_from_slice(case.inserted)?;
-    words.extend_from_slice(back)?;
-    Ok(words)
+    true
+}
+
+fn entry_modes(m: &SpvModule) -> usize {
+    match m.entries.get(0) {
+        Some(entry) => entry.modes.len(),
+        None => 0,
+    }
+}
+
+fn block_count(m: &SpvModule) -> usize {
+    match m.bodies.get(0) {
+        Some(body) => body.blocks.len(),
+        None => 0,
+    }
+}
+
+/// The rule that is told, and its place.
+fn told(built: Result<SpvModule, SpvError>) -> Result<Option<(u16, u64)>, SpvError> {
+    match built {
+        Ok(_) => Ok(None),
+        Err(SpvError::Fault(SpvFault { rule, word })) => Ok(Some((rule, word))),
+        Err(SpvError::NoMemory) => Err(SpvError::NoMemory),
+    }
 }

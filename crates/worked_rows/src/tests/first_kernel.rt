@@ -180,14 +180,9 @@ fn a_name_that_is_defined_nowhere(rt: HostRuntime) -> Result<(), Fail> {
 
 #[test]
 fn texts_outside_the_subset(rt: HostRuntime) -> Result<(), Fail> {
-    let texts: [&[u8]; 36] = [
+    let texts: [&[u8]; 29] = [
         b"",
         b"; only a comment",
-        b"\xFF",
-        b"define spir_kernel void @k() { ret void } ; \xC3",
-        b"define spir_kernel void @k() { ret }",
-        b"define spir_kernel void @k() { ret void ",
-        b"define spir_kernel void @k() { ret void } }",
         b"define void @k() { ret void }",
         b"define spir_func void @k() { ret void }",
         b"define spir_kernel i32 @k() { ret void }",
@@ -200,12 +195,10 @@ fn texts_outside_the_subset(rt: HostRuntime) -> Result<(), Fail> {
         b"define spir_kernel void @k(i32 %x) { b: %s = add i32 %b, %x ret void }",
         b"target triple = \"spir64-unknown-unknown\" define spir_kernel void @k() { ret void }",
         b"define spir_kernel void @k(i32 addrspace(1)* %p) { %v = load i32, i32 addrspace(1)* %p, align 8 ret void }",
-        b"define spir_kernel void @k(i32 %x) { store i32 %2147483648, i32 addrspace(1)* %q ret void }",
         b"define spir_kernel void @k(i32) { ret void }",
         b"define spir_kernel void @k(i64 %x) { ret void }",
         b"define spir_kernel void @k(i32* %x) { ret void }",
         b"define spir_kernel void @k(i32 addrspace(2)* %x) { ret void }",
-        b"define spir_kernel void @k(i32 %x,) { ret void }",
         b"define spir_kernel void @k(i32 %x, i32 %x) { ret void }",
         b"define spir_kernel void @k(i32 %1) { ret void }",
         b"define spir_kernel void @k(i32 %0) { %1 = add i32 %0, %0 ret void }",
@@ -222,6 +215,97 @@ fn texts_outside_the_subset(rt: HostRuntime) -> Result<(), Fail> {
         let is_refused = is_refused_by(rt.alloc(), text, "refused: rule L90 at byte 0\n")?;
         assert!(rt; is_refused, "{text:?}");
     }
+    Ok(())
+}
+
+#[test]
+fn texts_that_are_no_modules(rt: HostRuntime) -> Result<(), Fail> {
+    let cases: [(&[u8], &str); 11] = [
+        (b"\xFF", "refused: rule L1 at byte 0\n"),
+        (
+            b"define spir_kernel void @k() { ret void } ; \xC3",
+            "refused: rule L1 at byte 44\n",
+        ),
+        (
+            b"define spir_kernel void @k() { ret }",
+            "refused: rule L3 at byte 35\n",
+        ),
+        (
+            b"define spir_kernel void @k() { ret void ",
+            "refused: rule L3 at byte 40\n",
+        ),
+        (
+            b"define spir_kernel void @k() { ret void } }",
+            "refused: rule L3 at byte 42\n",
+        ),
+        (
+            b"define spir_kernel void @k(i32 %x) { store i32 %2147483648, i32 addrspace(1)* %q ret void }",
+            "refused: rule L4 at byte 47\n",
+        ),
+        (
+            b"define spir_kernel void @k(i32 %x,) { ret void }",
+            "refused: rule L3 at byte 34\n",
+        ),
+        (
+            b"define spir_kernel void @k(i8 %x) { %s = add i8 %x, 256 ret void }",
+            "refused: rule L4 at byte 52\n",
+        ),
+        // A rule of the grammar is told before an undefined name above it.
+        (
+            b"define spir_kernel void @k() { %s = add i32 %y, %y ret }",
+            "refused: rule L3 at byte 55\n",
+        ),
+        // What stands before the place where no token begins is looked at first.
+        (b"%T = type ] %", "refused: rule L3 at byte 10\n"),
+        (b"%T = type i32 %", "refused: rule L2 at byte 14\n"),
+    ];
+    for (text, line) in cases {
+        let is_refused = is_refused_by(rt.alloc(), text, line)?;
+        assert!(rt; is_refused, "{line}");
+    }
+    Ok(())
+}
+
+/// How many bytes of the smallest kernel's text are given, and what is told of them.
+static CUT: [(usize, &str); 6] = [
+    (3, "refused: rule L3 at byte 0\n"),
+    (6, "refused: rule L3 at byte 6\n"),
+    (25, "refused: rule L2 at byte 24\n"),
+    (26, "refused: rule L3 at byte 26\n"),
+    (33, "refused: rule L3 at byte 31\n"),
+    (40, "refused: rule L3 at byte 40\n"),
+];
+
+#[test]
+fn a_text_that_is_cut(rt: HostRuntime) -> Result<(), Fail> {
+    let kernel = b"define spir_kernel void @k() { ret void }";
+    for (len, line) in CUT.iter() {
+        let front = &kernel[..kernel.len().min(*len)];
+        let is_refused = is_refused_by(rt.alloc(), front, line)?;
+        assert!(rt; is_refused, "{line}");
+    }
+    Ok(())
+}
+
+/// A struct type whose arrays are nested this deep, cut behind their counts.
+fn nested_arrays(alloc: Global, depth: usize) -> Result<Vec<u8>, Fail> {
+    let mut text = Vec::from_slice(alloc, b"%T = type ")?;
+    for _ in 0..depth {
+        text.extend_from_slice(b"[1 x ")?;
+    }
+    Ok(text)
+}
+
+#[test]
+fn brackets_that_are_nested_too_deep(rt: HostRuntime) -> Result<(), Fail> {
+    let alloc = rt.alloc();
+    let text = nested_arrays(alloc, 101)?;
+    let is_refused = is_refused_by(alloc, &text, "refused: rule L5 at byte 510\n")?;
+    assert!(rt; is_refused);
+    // Without the last one the text ends too early.
+    let text = nested_arrays(alloc, 100)?;
+    let is_refused = is_refused_by(alloc, &text, "refused: rule L3 at byte 510\n")?;
+    assert!(rt; is_refused);
     Ok(())
 }
 

@@ -1,6 +1,0 @@
-use Rattle.std.proofs.Common.{◌≡◌, drop}
-use Rattle.spv_build.specs.Functions.{function_section}
-use Rattle.spv_build.proofs.functions.function_section.Given as goal
-
-abbrev pub invariant-loop-index : goal.invariant-loop-index
-invariant-loop-index l = function_section (drop l.index l.insts) ≡ function_section l.insts

@@ -1,8 +1,0 @@
-use Rattle.std.proofs.Common.{◌≡◌, take}
-use Rattle.rule_order.specs.Breaks.{least}
-use Rattle.spv_build.specs.Places.{places_where}
-use Rattle.spv_build.specs.RoleRules.{misuses}
-use Rattle.spv_build.proofs.role_rules.first_misuse.Given as goal
-
-abbrev pub invariant-loop-index : goal.invariant-loop-index
-invariant-loop-index l = l.least ≡ least (places_where (misuses l.insts) (take l.index l.insts))

@@ -1,0 +1,3 @@
+//! Which rule small modules break, and where.
+
+mod kernels;
