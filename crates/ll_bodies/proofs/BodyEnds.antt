@@ -1,6 +1,5 @@
 -- Before what may stand behind an instruction, instructions don't go on.
-use Rattle.std.proofs.Common.{◌≡◌, ℕ, false, true≢false, List, codes, refl, sym, ap, ◌∙◌, inl, inr, arith}
-use Rattle.std.specs.List.{list_any}
+use Rattle.std.proofs.Common.{◌≡◌, ℕ, false, true≢false, List, codes, sym, ◌∙◌, inl, inr, arith}
 use Rattle.std.specs.Str.{bytes_eq}
 use Rattle.std.specs.Cmp.Lexicographic.{bytes_decides}
 use Rattle.ll_tokens.specs.declared.kinds.TokenKind.{TokenKind}
@@ -12,18 +11,16 @@ use Rattle.ll_parser.specs.GrammarAttributes.{function_attribute}
 use Rattle.ll_parser.specs.GrammarInsts.{operation}
 use Rattle.ll_parser.specs.NameReading.{any_of}
 use Rattle.ll_parser.specs.Pointers.{NoPointer}
-use Rattle.ll_parser.specs.Productions.{◌>>◌, mark, token, word}
+use Rattle.ll_parser.specs.Productions.{◌>>◌, mark}
 use Rattle.ll_parser.specs.Reading.{EndsNowhere}
 use Rattle.ll_parser.proofs.PointerFacts.{word_no_mark}
-use Rattle.ll_parser.proofs.TokenFacts.{same_first}
 use Rattle.ll_types.proofs.Tokens.{kinds_apart, mark_no_pointer, marks_apart}
 use Rattle.ll_attributes.specs.FunctionAttributes.{NoFunctionAttribute}
 use Rattle.ll_attributes.proofs.FunctionFacts.{no_function_attribute_at, no_function_attribute_at_word}
 use Rattle.ll_operands.specs.Parts.{operand_comma}
-use Rattle.ll_operands.specs.Whole.{EndsOperation}
 use Rattle.ll_operands.proofs.TypeBegins.{words_apart}
 use Rattle.ll_bodies.specs.BodyWords.{EndsInst}
-use Rattle.ll_bodies.proofs.OperationWords.{BeginsWith, first_word}
+use Rattle.ll_bodies.proofs.OperationWords.{first_word}
 
 -- no attribute of a function begins where none is read
 pub no_attribute_here : (tokens : List Lexeme) → NoFunctionAttribute tokens → EndsNowhere function_attribute tokens

@@ -4,7 +4,7 @@ use Rattle.ll_tokens.specs.Tokens.{Lexeme}
 use Rattle.ll_parser.specs.declared.refusal.Refusal.{Refusal}
 use Rattle.ll_parser.specs.Productions.{Production, ◌>>◌}
 use Rattle.ll_parser.specs.Reading.{EndsNowhere}
-use Rattle.ll_parser.proofs.EndFacts.{Ends, ends_same, ends_then}
+use Rattle.ll_parser.proofs.EndFacts.{ends_same, ends_then}
 use Rattle.ll_types.proofs.Tokens.{EndsBy, seq_ends}
 use Rattle.ll_operands.specs.Parts.{Begins, Part, times}
 use Rattle.ll_operands.proofs.PartFacts.{IsExact}

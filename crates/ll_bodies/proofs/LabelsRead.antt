@@ -10,12 +10,10 @@ use Rattle.ll_parser.specs.GrammarFunctions.{next_behind}
 use Rattle.ll_parser.specs.NameReading.{DerivesNoneWith, ReadsWith, SpellsWith, any_of}
 use Rattle.ll_parser.specs.Reading.{EndsNowhere}
 use Rattle.ll_parser.specs.Spellings.{IsInReach, Spells, spelling_of}
-use Rattle.ll_parser.specs.Tables.{Extends}
-use Rattle.ll_parser.proofs.EndFacts.{ends_same, token_ends}
+use Rattle.ll_parser.proofs.EndFacts.{token_ends}
 use Rattle.ll_parser.proofs.TableFacts.{entry_stays, extends_at_number}
 use Rattle.ll_parser.proofs.TokenFacts.{same_first, token_leaves_one}
 use Rattle.ll_types.proofs.MembersRead.{derived}
-use Rattle.ll_types.proofs.Tokens.{EndsBy}
 use Rattle.ll_operands.proofs.PartFacts.{IsExact, exact_optional}
 use Rattle.ll_heads.specs.Params.{first_place}
 use Rattle.ll_bodies.specs.Labels.{block_label_part, label_here, numbered_label, written_label, written_label_part}

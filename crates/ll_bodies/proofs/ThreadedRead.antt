@@ -1,5 +1,5 @@
 -- Items that carry a number from one to the next, as a loop reads them.
-use Rattle.std.proofs.Common.{◌≡◌, ℕ, List, [], ◌∷◌, ◌++◌, refl, sym, ap, ◌∙◌, subst, suc}
+use Rattle.std.proofs.Common.{◌≡◌, ℕ, List, [], ◌∷◌, ◌++◌, refl, sym, subst, suc}
 use Rattle.ll_tokens.specs.Tokens.{Lexeme}
 use Rattle.ll_tree.specs.declared.name.NameText.{NameText}
 use Rattle.ll_parser.specs.NameReading.{ReadsWith}

@@ -1,7 +1,6 @@
 -- Labels of blocks as they are read (LLVM 14, Functions; Identifiers).
 use Rattle.std.specs.Prelude.{◌≡◌, ℕ, ◌⊎◌, ◌-◌, List, take, length, slice_get}
 use Rattle.ll_tokens.specs.declared.kinds.TokenKind.TheVariants.{Label}
-use Rattle.ll_tokens.specs.Tokens.{Lexeme}
 use Rattle.ll_tree.specs.declared.name.Name.{Name}
 use Rattle.ll_tree.specs.declared.name.NameKind.TheVariants.{Local as LocalName}
 use Rattle.ll_tree.specs.declared.name.NameText.{NameText}

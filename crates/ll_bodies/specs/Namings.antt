@@ -1,9 +1,9 @@
 -- Names that instructions are given, as they are read (LLVM 14, Identifiers).
-use Rattle.std.specs.Prelude.{◌≡◌, ℕ, List, Option, slice_get, Bool, false, if◌then◌else◌, IsTrue}
+use Rattle.std.specs.Prelude.{◌≡◌, ℕ, List, Option, if◌then◌else◌}
 use Rattle.ll_tree.specs.declared.name.Name.{Name}
 use Rattle.ll_tree.specs.declared.name.NameText.{NameText}
 use Rattle.ll_tree.specs.declared.op.Op.{Op}
-use Rattle.ll_parser.specs.GrammarFunctions.{given, has_value, naming, next_after}
+use Rattle.ll_parser.specs.GrammarFunctions.{given, naming, next_after}
 use Rattle.ll_parser.specs.GrammarValues.{local}
 use Rattle.ll_parser.specs.Productions.{Production, ◌>>◌, mark}
 use Rattle.ll_parser.specs.Tables.{Extends}

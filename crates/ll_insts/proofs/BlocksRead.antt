@@ -1,6 +1,5 @@
 -- Blocks as they are read: what each exit of a reader answers.
-use Rattle.std.proofs.Common.{◌≡◌, ℕ, ◌<◌, ◌-◌, Bool, true, false, IsTrue, List, [], ◌∷◌, ◌++◌, length, drop, map, Option, None, Some, slice_get, refl, sym, ap, ◌∙◌, subst, subst₂, zero, suc, ◌≤◌, append-nil, inl, inr, arith}
-use Rattle.inst_walk.specs.declared.body.Block.{Block}
+use Rattle.std.proofs.Common.{◌≡◌, ℕ, ◌<◌, ◌-◌, Bool, true, false, IsTrue, List, [], ◌∷◌, ◌++◌, length, drop, map, refl, sym, ap, ◌∙◌, subst, subst₂, zero, suc, ◌≤◌, append-nil, inl, inr, arith}
 use Rattle.ll_tokens.specs.declared.kinds.Token.{Token}
 use Rattle.ll_tokens.specs.Tokens.{Lexeme, lexemes_of}
 use Rattle.ll_tree.specs.declared.inst.Inst.{Inst}
@@ -16,8 +15,7 @@ use Rattle.ll_parser.specs.Reading.{EndsNowhere}
 use Rattle.ll_parser.proofs.EndFacts.{ends_length}
 use Rattle.ll_parser.proofs.TableFacts.{extends_then}
 use Rattle.ll_types.proofs.MembersRead.{derived}
-use Rattle.ll_types.proofs.Tokens.{Shortens, seq_shortens}
-use Rattle.ll_attributes.specs.Attachments.{skipped_attachments}
+use Rattle.ll_types.proofs.Tokens.{Shortens}
 use Rattle.ll_attributes.proofs.LoopFacts.{SoFar, at_start, fewer_left, one_more, so_far}
 use Rattle.ll_operands.specs.Parts.{Begins, Refuses, ◌then◌, times}
 use Rattle.ll_operands.proofs.Readings.{first_refused, second_refused, told_as}
@@ -31,7 +29,7 @@ use Rattle.ll_insts.specs.Blocks.{block_here, blocks_here, blocks_of, labels_of,
 use Rattle.ll_insts.specs.declared.blocks.Blocks.{Blocks}
 use Rattle.ll_insts.specs.declared.blocks.PlacedBlock.{PlacedBlock}
 use Rattle.ll_insts.specs.InstParts.{block_part, blocks_part, inst_part, insts_part, more_blocks_part}
-use Rattle.ll_insts.specs.Insts.{InstsBefore, inst_here, insts_here, plain_inst}
+use Rattle.ll_insts.specs.Insts.{inst_here, insts_here, plain_inst}
 use Rattle.ll_insts.proofs.ExactInsts.{exact_block, exact_blocks, inst_part_shortens}
 use Rattle.ll_insts.proofs.InstsRead.{here_is_part, plain_is_part}
 use Rattle.ll_insts.proofs.OperationFacts.{operation_right}

@@ -4,10 +4,9 @@ use Rattle.ll_tokens.specs.declared.kinds.TokenKind.TheVariants.{Local as LocalT
 use Rattle.ll_tokens.specs.Tokens.{Lexeme}
 use Rattle.ll_parser.specs.NameReading.{any_of}
 use Rattle.ll_parser.specs.Productions.{◌>>◌, mark}
-use Rattle.ll_parser.proofs.EndFacts.{ends_then}
-use Rattle.ll_types.proofs.Tokens.{Shortens, seq_ends, seq_shortens, token_end, token_shortens}
+use Rattle.ll_types.proofs.Tokens.{Shortens, seq_shortens, token_end, token_shortens}
 use Rattle.ll_attributes.proofs.AttachmentFacts.{skipped_end, skipped_none, skipped_one}
-use Rattle.ll_operands.specs.Parts.{Begins, either, local_part, mark_part, ◌then◌}
+use Rattle.ll_operands.specs.Parts.{Begins, local_part, mark_part, ◌then◌}
 use Rattle.ll_operands.proofs.PartFacts.{IsExact, exact_either, exact_local, exact_mark, exact_then}
 use Rattle.ll_bodies.specs.BodyJoins.{no_part}
 use Rattle.ll_bodies.specs.BodyWords.{terminator_word, unnamed_word}

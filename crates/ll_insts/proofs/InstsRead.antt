@@ -1,5 +1,5 @@
 -- Instructions as they are read: what each exit of a reader answers.
-use Rattle.std.proofs.Common.{◌≡◌, ℕ, ◌<◌, ◌-◌, Bool, true, false, true≢false, IsTrue, List, [], ◌∷◌, ◌++◌, length, drop, Option, None, Some, slice_get, refl, sym, ap, ◌∙◌, subst, inl, inr, arith}
+use Rattle.std.proofs.Common.{◌≡◌, ℕ, ◌<◌, ◌-◌, Bool, true, false, IsTrue, List, [], ◌∷◌, ◌++◌, length, drop, Option, Some, slice_get, refl, sym, ap, ◌∙◌, subst, inl, inr, arith}
 use Rattle.ll_tokens.specs.declared.kinds.Token.{Token}
 use Rattle.ll_tokens.specs.declared.kinds.TokenKind.TheVariants.{Local as LocalToken}
 use Rattle.ll_tokens.specs.Tokens.{Lexeme, lexemes_of}
@@ -19,16 +19,16 @@ use Rattle.ll_types.proofs.MembersRead.{derived}
 use Rattle.ll_types.proofs.Tokens.{Shortens}
 use Rattle.ll_attributes.specs.Attachments.{SkippedFail, skipped_attachments}
 use Rattle.ll_attributes.proofs.LoopFacts.{SoFar, at_start, fewer_left, one_more, so_far}
-use Rattle.ll_operands.specs.Parts.{Begins, Refuses, optional, times, ◌then◌}
-use Rattle.ll_operands.proofs.Readings.{any_read, first_refused, second_refused}
+use Rattle.ll_operands.specs.Parts.{Begins, Refuses, optional, ◌then◌}
+use Rattle.ll_operands.proofs.Readings.{first_refused, second_refused}
 use Rattle.ll_heads.specs.Params.{first_place}
-use Rattle.ll_bodies.specs.BodyJoins.{threaded, unless_begins}
+use Rattle.ll_bodies.specs.BodyJoins.{unless_begins}
 use Rattle.ll_bodies.specs.BodyWords.{terminator_word, unnamed_word}
 use Rattle.ll_bodies.specs.Namings.{NamesUnnamed, given_name, given_part}
 use Rattle.ll_bodies.proofs.OperationWords.{never_named}
 use Rattle.ll_bodies.proofs.ThreadedRead.{ThreadedReads, none_read, one_read, reads_times}
 use Rattle.ll_insts.specs.InstParts.{attachments_part, inst_part, insts_part, named_operation_part, named_part, unnamed_part}
-use Rattle.ll_insts.specs.Insts.{InstsBefore, inst_here, insts_here, named_operation, plain_inst}
+use Rattle.ll_insts.specs.Insts.{inst_here, insts_here, named_operation, plain_inst}
 use Rattle.ll_insts.specs.Operations.{operation_part, whole_operation}
 use Rattle.ll_insts.proofs.ExactInsts.{inst_part_shortens}
 use Rattle.ll_insts.proofs.OperationFacts.{operation_is_part, operation_right}

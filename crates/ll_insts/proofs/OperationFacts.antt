@@ -16,9 +16,8 @@ use Rattle.ll_parser.specs.declared.refusal.Refusal.{Refusal}
 use Rattle.ll_parser.specs.GrammarInsts.{binary_word, operation}
 use Rattle.ll_parser.specs.GrammarValues.{cast_word}
 use Rattle.ll_parser.specs.NameReading.{ReadsWith}
-use Rattle.ll_parser.specs.Productions.{◌>>◌, word}
 use Rattle.ll_parser.specs.Reading.{EndsNowhere}
-use Rattle.ll_types.proofs.Tokens.{Shorter, Shortens}
+use Rattle.ll_types.proofs.Tokens.{Shortens}
 use Rattle.ll_operands.specs.Parts.{Begins, Part, Refuses, either, one_word, word_then}
 use Rattle.ll_operands.specs.Whole.{EndsOperation}
 use Rattle.ll_operands.proofs.PartFacts.{IsExact, exact_either, same_word}
@@ -55,7 +54,7 @@ use Rattle.ll_value_ops.proofs.ExactOperations.{exact_value_operation}
 use Rattle.ll_value_ops.proofs.PartsDerived as value_parts
 use Rattle.ll_operands.proofs.WholeFacts.{whole_at_end}
 use Rattle.ll_bodies.specs.BodyJoins.{no_part}
-use Rattle.ll_bodies.specs.BodyWords.{EndsInst, is_word_of}
+use Rattle.ll_bodies.specs.BodyWords.{is_word_of}
 use Rattle.ll_bodies.proofs.ExactJoins.{exact_none}
 use Rattle.ll_insts.specs.Operations.{operation_part, whole_operation}
 

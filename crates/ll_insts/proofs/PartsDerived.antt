@@ -1,5 +1,5 @@
 -- What the grammar derives of the bodies of functions is of the parts that are read.
-use Rattle.std.proofs.Common.{◌≡◌, ℕ, suc, ◌<◌, Bool, true, false, true≢false, IsTrue, List, [], ◌∷◌, ◌++◌, length, Option, None, Some, refl, sym, ap, ◌∙◌, subst, inl, inr, ◌⊎◌, arith}
+use Rattle.std.proofs.Common.{◌≡◌, ℕ, suc, Bool, true, false, true≢false, IsTrue, List, [], ◌∷◌, Option, None, Some, refl, sym, subst, inl, inr, ◌⊎◌, arith}
 use Rattle.inst_walk.specs.declared.body.Block.{Block}
 use Rattle.ll_tokens.specs.declared.kinds.TokenKind.{TokenKind}
 use Rattle.ll_tokens.specs.declared.kinds.TokenKind.TheVariants.{Label, Local as LocalToken, MdName, Punct, Word}
@@ -10,10 +10,9 @@ use Rattle.ll_tree.specs.declared.name.Name.{Name}
 use Rattle.ll_tree.specs.declared.name.NameText.{NameText}
 use Rattle.ll_tree.specs.declared.op.Op.{Op}
 use Rattle.ll_tree.specs.declared.op.Op.TheVariants as op
-use Rattle.ll_parser.specs.GrammarAttributes.{any_attachments, attachment, function_attribute}
+use Rattle.ll_parser.specs.GrammarAttributes.{any_attachments}
 use Rattle.ll_parser.specs.GrammarFunctions.{block_names, blocks, given, inst, insts, is_terminator, label, may_have_name, naming, next_after}
 use Rattle.ll_parser.specs.GrammarInsts.{operation}
-use Rattle.ll_parser.specs.GrammarValues.{local}
 use Rattle.ll_parser.specs.NameReading.{any_of}
 use Rattle.ll_parser.specs.Productions.{◌>>◌, each, mark, token}
 use Rattle.ll_parser.specs.Reading.{EndsNowhere}
@@ -23,12 +22,11 @@ use Rattle.ll_attributes.specs.Attachments.{behind_comma, skipped_attachments}
 use Rattle.ll_attributes.specs.FunctionAttributes.{NoFunctionAttribute}
 use Rattle.ll_attributes.proofs.FunctionFacts.{no_function_attribute_at}
 use Rattle.ll_calls.specs.Calls.{EndsCall}
-use Rattle.ll_operands.specs.Parts.{Begins, operand_comma, times}
+use Rattle.ll_operands.specs.Parts.{Begins}
 use Rattle.ll_operands.specs.Whole.{EndsOperation}
-use Rattle.ll_bodies.specs.BodyJoins.{unless_begins}
 use Rattle.ll_bodies.specs.BodyWords.{EndsInst, terminator_word}
 use Rattle.ll_bodies.proofs.BodyEnds.{close_ends_inst, label_ends_inst, local_ends_inst, no_attribute_here, word_ends_inst}
-use Rattle.ll_bodies.proofs.OperationWords.{BeginsWith, ends_block, first_word, goes_on, may_be_named}
+use Rattle.ll_bodies.proofs.OperationWords.{ends_block, first_word, goes_on, may_be_named}
 use Rattle.ll_insts.specs.Blocks.{blocks_here}
 use Rattle.ll_insts.specs.declared.blocks.Blocks.{Blocks}
 use Rattle.ll_insts.specs.InstParts.{block_part, blocks_part, inst_part, insts_part, more_blocks_part}

@@ -1,4 +1,4 @@
-use Rattle.ll_texts.proofs.TextLaws.{faulty_module, faulty_tokens, parsed_module}
+use Rattle.ll_texts.proofs.TextLaws.{faulty_module, faulty_tokens}
 use Rattle.ll_texts.proofs.parsing.parse.Goals as goal
 
 pub returns-in-Some : goal.returns-in-Some
