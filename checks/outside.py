@@ -4,7 +4,7 @@
 - spirv-val accepts the translation of each example.
 - llvm-as-14 accepts the text that this translation is translated back to, and that text is translated to the same binary.
 - What clang-14 prints for OpenCL C kernels is cut into tokens wholly, and the listing has every byte of it but blanks and
-  comments.
+  comments. The translation refuses it by no rule of texts below L20: it has the grammar, whether it is covered or not.
 
 usage: checks/outside.py [PROGRAM], where PROGRAM is crates/spirv_tool/out/spirv_tool unless it is given.
 """
@@ -25,6 +25,14 @@ KERNELS = {
     "local": "kernel void swap(global int *p, local int *q) { size_t i = get_local_id(0); q[i] = p[i]; "
              "barrier(CLK_LOCAL_MEM_FENCE); p[i] = q[get_local_size(0) - 1 - i]; }",
     "switch": "kernel void pick(global char4 *p, int n) { switch (n) { case 1: p->x = 3; break; case 7: p->y = -1; } }",
+    "atomic": "kernel void count(global int *p, volatile local int *q) { atomic_inc(p); atomic_add(q, 2); "
+              "mem_fence(CLK_GLOBAL_MEM_FENCE); atomic_cmpxchg(p, 1, 5); }",
+    "struct": "typedef struct { char c; long l[2]; } S; constant S t[2] = {{1, {2, 3}}, {4, {5, 6}}}; "
+              "S pick(int i) { return t[i]; } kernel void put(global S *p, int i) { p[i] = pick(i); }",
+    "vector": "kernel void mix(global uchar16 *p, global short3 *q, ulong n) { "
+              "p[1] = p[0].s1032547698badcfe; q[n] = (short3)(1, 2, n >> 3) * q[0]; p[2] = select(p[0], p[1], p[0] > p[1]); }",
+    "hints": "kernel __attribute__((reqd_work_group_size(8, 2, 1))) __attribute__((work_group_size_hint(8, 2, 1))) "
+             "void size(global ulong *p, constant uint *c) { local uint t[16]; t[get_local_id(0)] = *c; *p = t[3] / *c % 5u; }",
 }
 
 CLANG = ["clang-14", "-target", "spir64", "-fwrapv", "-cl-std=CL1.2", "-Xclang", "-finclude-default-header",
@@ -92,10 +100,27 @@ def check_tokens(program):
     return failures
 
 
+def check_grammar(program):
+    if not shutil.which("clang-14"):
+        print("clang-14 is missing: skipped")
+        return 0
+    failures = 0
+    for name, source in KERNELS.items():
+        for level in ("-O0", "-O2"):
+            text = run(CLANG + [level, "-x", "cl", "-"], source.encode()).stdout
+            done = run([program, "translate", "--from", "llvm", "--to", "spirv"], text)
+            refused = re.fullmatch(rb"refused: rule L(\d+) at byte \d+\n", done.stderr)
+            passed = text and (done.returncode == 0 or refused and int(refused.group(1)) >= 20)
+            failures += not passed
+            print(f"grammar of clang-14 {name} {level}: {'ok' if passed else done.stderr.decode()}")
+    return failures
+
+
 def main():
     default = os.path.join(HERE, "..", "crates", "spirv_tool", "out", "spirv_tool")
     program = sys.argv[1] if len(sys.argv) > 1 else default
-    return 1 if check_validator(program) + check_way_back(program) + check_tokens(program) else 0
+    failures = check_validator(program) + check_way_back(program) + check_tokens(program) + check_grammar(program)
+    return 1 if failures else 0
 
 
 if __name__ == "__main__":
