@@ -1,0 +1,9 @@
+pub mod Attributes
+pub mod Faults
+pub mod Insts
+pub mod Items
+pub mod Joins
+pub mod Leaves
+pub mod Operations
+pub mod Types
+pub mod Values

@@ -1,0 +1,16 @@
+pub mod Texts
+pub mod Lists
+pub mod Natural
+pub mod SectionParts
+pub mod ListsBack
+pub mod OpcodeReaders
+pub mod MergedLists
+pub mod RestBack
+pub mod FunctionsMoved
+pub mod FrontSections
+pub mod FunctionsBuilt
+pub mod KeptBack
+pub mod EntriesBack
+pub mod TypesBack
+pub mod Whole
+pub mod PartnerWritable
