@@ -7,8 +7,8 @@ use crate::error::BinaryError;
 use crate::translation::MAX_BYTES;
 use kernel_printer::print_kernel;
 use ports::{OutOfMemory, SpvError};
-use spv_names::names_fault;
 use spv_codec::RawModule;
+use spv_names::names_fault;
 use std::alloc::Global;
 use to_llvm::to_llvm;
 
