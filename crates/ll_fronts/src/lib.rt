@@ -1,0 +1,6 @@
+//! A refusal depends on nothing behind its place: with the tokens up to the one at the place, no module begins.
+#![tactic(auto)]
+
+mod laws;
+
+pub use laws::{refusals_depend_on_nothing_behind, refusals_stay, texts_depend_on_nothing_behind};

@@ -1,0 +1,14 @@
+pub mod AttributesWritten
+pub mod Begun
+pub mod BlocksWritten
+pub mod FunctionsWritten
+pub mod HeadsWritten
+pub mod InstsWritten
+pub mod ItemsWritten
+pub mod ModulesAgain
+pub mod ModulesWritten
+pub mod NamesLeftOut
+pub mod OpParts
+pub mod OpWords
+pub mod OpsKept
+pub mod OpsWritten

@@ -1,0 +1,4 @@
+pub mod FunctionPhrases
+pub mod Laws
+pub mod ModulePhrases
+pub mod OpPhrases
