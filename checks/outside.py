@@ -5,6 +5,8 @@
 - llvm-as-14 accepts the text that this translation is translated back to, and that text is translated to the same binary.
 - What clang-14 prints for OpenCL C kernels is cut into tokens wholly, and the listing has every byte of it but blanks and
   comments. The translation refuses it by no rule of texts below L20: it has the grammar, whether it is covered or not.
+- What llvm-spirv-14 makes of the same kernels is a module, which is translated or outside the covered subset, or is refused by a
+  rule of docs/RULES.md, which is printed.
 
 usage: checks/outside.py [PROGRAM], where PROGRAM is crates/spirv_tool/out/spirv_tool unless it is given.
 """
@@ -116,10 +118,34 @@ def check_grammar(program):
     return failures
 
 
+def check_binaries(program):
+    if not shutil.which("clang-14") or not shutil.which("llvm-spirv-14"):
+        print("clang-14 or llvm-spirv-14 is missing: skipped")
+        return 0
+    with open(os.path.join(HERE, "..", "docs", "RULES.md")) as file:
+        rules = set(re.findall(r"^\| S(\d+) \|", file.read(), re.MULTILINE))
+    failures = 0
+    for name, source in KERNELS.items():
+        for level in ("-O0", "-O2"):
+            bitcode = run([word for word in CLANG if word != "-S"] + [level, "-c", "-x", "cl", "-"], source.encode()).stdout
+            with tempfile.NamedTemporaryFile(suffix=".bc") as compiled, tempfile.NamedTemporaryFile(suffix=".spv") as binary:
+                compiled.write(bitcode)
+                compiled.flush()
+                subprocess.run(["llvm-spirv-14", "--spirv-max-version=1.2", compiled.name, "-o", binary.name])
+                words = binary.read()
+            done = run([program, "translate", "--from", "spirv", "--to", "llvm"], words)
+            refused = re.fullmatch(r"refused: rule S(\d+) at word \d+\n", done.stderr.decode())
+            passed = words and (done.returncode == 0 or refused and refused.group(1) in rules)
+            failures += not passed
+            print(f"llvm-spirv-14 {name} {level}: {'ok' if passed else 'failed'} {done.stderr.decode().strip()}")
+    return failures
+
+
 def main():
     default = os.path.join(HERE, "..", "crates", "spirv_tool", "out", "spirv_tool")
     program = sys.argv[1] if len(sys.argv) > 1 else default
     failures = check_validator(program) + check_way_back(program) + check_tokens(program) + check_grammar(program)
+    failures += check_binaries(program)
     return 1 if failures else 0
 
 

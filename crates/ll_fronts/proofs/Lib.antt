@@ -4,3 +4,4 @@ pub mod Items
 pub mod Joins
 pub mod Operations
 pub mod Refusals
+pub mod Shorter

@@ -3,4 +3,7 @@
 
 mod laws;
 
-pub use laws::{refusals_depend_on_nothing_behind, refusals_stay, texts_depend_on_nothing_behind};
+pub use laws::{
+    refusals_depend_on_nothing_behind, refusals_stay, shorter_lists_go_on,
+    texts_depend_on_nothing_behind,
+};

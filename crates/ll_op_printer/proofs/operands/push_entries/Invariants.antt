@@ -1,0 +1,7 @@
+use Rattle.std.proofs.Common.{◌≡◌, ◌++◌, take}
+use Rattle.ll_phrases.specs.Phrases.{list_phrase, written}
+use Rattle.ll_printed.specs.OpPhrases.{entry_phrase}
+use Rattle.ll_op_printer.proofs.operands.push_entries.Given as goal
+
+abbrev pub invariant-loop-i : goal.invariant-loop-i
+invariant-loop-i l = l.text.items ≡ l.initial.text.items ++ written (list_phrase (entry_phrase l.names) (take l.i l.entries))

@@ -1,0 +1,7 @@
+use Rattle.std.proofs.Common.{◌≡◌, ◌++◌, take}
+use Rattle.ll_phrases.specs.Phrases.{list_phrase, written}
+use Rattle.ll_printed.specs.ModulePhrases.{node_ref_phrase}
+use Rattle.ll_printer.proofs.nodes.push_node_refs.Given as goal
+
+abbrev pub invariant-loop-i : goal.invariant-loop-i
+invariant-loop-i l = l.text.items ≡ l.initial.text.items ++ written (list_phrase node_ref_phrase (take l.i l.nodes))

@@ -1,0 +1,7 @@
+use Rattle.std.proofs.Common.{◌≡◌, ◌++◌, take}
+use Rattle.ll_phrases.specs.Phrases.{each_phrase, written}
+use Rattle.ll_printed.specs.ModulePhrases.{variable_line}
+use Rattle.ll_printer.proofs.variables.push_variables.Given as goal
+
+abbrev pub invariant-loop-i : goal.invariant-loop-i
+invariant-loop-i l = l.text.items ≡ l.initial.text.items ++ written (each_phrase (variable_line l.names) (take l.i l.variables))
