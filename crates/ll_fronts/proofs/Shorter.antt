@@ -21,10 +21,10 @@ take_twice (x ∷ xs) (suc k) zero le = absurd (omega (arith, le))
 take_twice (x ∷ xs) (suc k) (suc n) le = let less : k ≤ n = omega (arith, le) in ap (λ rest. x ∷ rest) (take_twice xs k n less)
 
 -- no tokens are those of a module without anything
-nothing : LlModule
+abbrev nothing : LlModule
 nothing = record { targets = []; structs = []; variables = []; declares = []; functions = []; bodies = []; ocl_version = []; nodes = []; pointer = P64; names = [] }
 
-is_there : Option NameText → Bool
+abbrev is_there : Option NameText → Bool
 is_there None = false
 is_there (Some entry) = true
 

@@ -172,13 +172,15 @@ group-left-out tokens a b c d e rest group (l, is, of, text) (l1, is1, of1, any)
     let kinds2 = (subst OfKind is1 kinds1).1 in
     let kinds3 = (subst OfKind is2 kinds2).1 in
     let kinds4 = (subst OfKind is3 kinds3).1 in
-    let (through, kinds5) = group-passes group e all (subst OfKind same kinds4) in
-    (sym (ap (deep []) is ∙ (group-begins l a of text
-    ∙ (ap (first_too_deep true []) is1 ∙ (token-in-group Attr l1 b of1 (λ t. refl)
-    ∙ (ap (first_too_deep true []) is2 ∙ (mark-in-group 61 l2 c of2 text2 refl
-    ∙ (ap (first_too_deep true []) is3 ∙ (mark-in-group 123 l3 d of3 text3 refl
-    ∙ (ap (first_too_deep true []) same ∙ (through
-    ∙ (ap (first_too_deep true []) is4 ∙ brace-ends l4 rest of4 text4))))))))))) ∙ shallow.0, (subst OfKind is4 kinds5).1)
+    let (through, kinds5) = group-passes group e all (subst OfKind same kinds4) in (
+      sym (ap (deep []) is ∙ (group-begins l a of text
+          ∙ (ap (first_too_deep true []) is1 ∙ (token-in-group Attr l1 b of1 (λ t. refl)
+          ∙ (ap (first_too_deep true []) is2 ∙ (mark-in-group 61 l2 c of2 text2 refl
+          ∙ (ap (first_too_deep true []) is3 ∙ (mark-in-group 123 l3 d of3 text3 refl
+          ∙ (ap (first_too_deep true []) same ∙ (through
+          ∙ (ap (first_too_deep true []) is4 ∙ brace-ends l4 rest of4 text4))))))))))) ∙ shallow.0,
+      (subst OfKind is4 kinds5).1,
+    )
 
 dropped-left-out : (tokens rest : List Lexeme) → dropped_item tokens rest → IsShallow [] tokens → IsShallow [] rest
 unfolding ◌>>◌

@@ -211,6 +211,7 @@ module _ (names : List NameText) where
       tail-left-out m (inl (inl is)) shallow = word-left-out a (codes "tail") tokens m refl is shallow
       tail-left-out m (inl (inr is)) shallow = word-left-out a (codes "notail") tokens m refl is shallow
       tail-left-out m (inr same) shallow = subst (λ (ts : List Lexeme). IsShallow a ts) same shallow
+
       convention-left-out : (m n : List Lexeme) → maybe (word (codes "spir_kernel") or word (codes "spir_func")) m n → IsShallow a m → IsShallow a n
       convention-left-out m n (inl (inl is)) shallow = word-left-out a (codes "spir_kernel") m n refl is shallow
       convention-left-out m n (inl (inr is)) shallow = word-left-out a (codes "spir_func") m n refl is shallow

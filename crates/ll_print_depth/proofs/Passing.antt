@@ -120,9 +120,10 @@ mark-plain code l none of same = plain-of Punct (code ∷ []) l of same (record 
 
 pub mark-passes : {brackets : List Bool} (code : ℕ) (tokens rest : List Lexeme) → ((next : ℕ) → bracket_of code next ≡ Plain) → mark code tokens rest → Leads brackets brackets tokens rest (Mark code)
 mark-passes {brackets} code tokens rest none (l, is, of, same) = record {
-  leads = λ shallow.
-      (plain-leads brackets l tokens rest is (mark-plain code l none of same) shallow,
-      λ ts behind (k, at, kind, text). ap (deep brackets) at ∙ plain-turn brackets k behind (mark-plain code k none kind text));
+  leads = λ shallow. (
+    plain-leads brackets l tokens rest is (mark-plain code l none of same) shallow,
+    λ ts behind (k, at, kind, text). ap (deep brackets) at ∙ plain-turn brackets k behind (mark-plain code k none kind text),
+  );
 }
 
 -- what a bracket is counted as
@@ -156,9 +157,10 @@ closing-turn brackets flag code l rest closes of same =
 -- a closing bracket
 pub closing-leads : {brackets : List Bool} (flag : Bool) (code : ℕ) (tokens rest : List Lexeme) → ((next : ℕ) → bracket_of code next ≡ Closing) → mark code tokens rest → Leads (brackets ++ flag ∷ []) brackets tokens rest (Mark code)
 closing-leads {brackets} flag code tokens rest closes (l, is, of, same) = record {
-  leads = λ shallow.
-      ((sym (closing-turn brackets flag code l rest closes of same) ∙ (ap (deep (brackets ++ flag ∷ [])) (sym is) ∙ shallow.0), (subst OfKind is shallow.1).1),
-      λ ts after (k, at, kind, text). ap (deep (brackets ++ flag ∷ [])) at ∙ closing-turn brackets flag code k after closes kind text);
+  leads = λ shallow. (
+    (sym (closing-turn brackets flag code l rest closes of same) ∙ (ap (deep (brackets ++ flag ∷ [])) (sym is) ∙ shallow.0), (subst OfKind is shallow.1).1),
+    λ ts after (k, at, kind, text). ap (deep (brackets ++ flag ∷ [])) at ∙ closing-turn brackets flag code k after closes kind text,
+  );
 }
 
 -- An opening bracket before something. Whether it is counted may hang on the mark behind it, which is then the same in the phrase.
