@@ -1,1 +1,2 @@
 pub mod ModulesBack
+pub mod OneModule

@@ -3,4 +3,4 @@
 
 mod laws;
 
-pub use laws::printed_modules_are_read;
+pub use laws::{printed_modules_are_read, printed_modules_are_themselves, texts_have_one_module};

@@ -40,24 +40,32 @@ static SECTIONS: [&[u32]; 12] = [
 /// The numbers of the sections in order.
 const ORDER: [usize; 12] = [0, 1, 2, 3, 4, 5, 6, 7, 8, 9, 10, 11];
 
-/// The words of a binary of these sections, one behind another.
-fn words_of(alloc: Global, order: &[usize]) -> Result<Vec<u32>, SpvError> {
-    let mut words = Vec::from_slice(alloc, &HEADER)?;
+/// Puts sections behind the words of a binary.
+fn push_sections(words: &mut Vec<u32>, order: &[usize]) -> Result<(), SpvError> {
     for section in order {
         if let Some(part) = SECTIONS.get(*section) {
             words.extend_from_slice(part)?;
         }
     }
+    Ok(())
+}
+
+/// The words of a binary of these sections, one behind another.
+fn words_of(alloc: Global, order: &[usize]) -> Result<Vec<u32>, SpvError> {
+    let mut words = Vec::from_slice(alloc, &HEADER)?;
+    push_sections(&mut words, order)?;
     Ok(words)
 }
 
-/// The words of a binary in which a section and the one behind it are exchanged, and the word where the lower one stands then.
+/// The words of a binary in which one of the first eleven sections and the one behind it are exchanged, and the word where the lower
+/// one stands then.
 fn exchanged(alloc: Global, section: usize) -> Result<(Vec<u32>, u64), SpvError> {
-    let mut words = words_of(alloc, &ORDER[..section.min(10)])?;
-    words.extend_from_slice(SECTIONS[section.min(10) + 1])?;
+    let lower = section.min(10);
+    let mut words = words_of(alloc, &ORDER[..lower])?;
+    push_sections(&mut words, &[lower + 1])?;
     let place = words.len() as u64;
-    words.extend_from_slice(SECTIONS[section.min(10)])?;
-    words.extend_from_slice(&words_of(alloc, &ORDER[section.min(10) + 2..])?[5..])?;
+    push_sections(&mut words, &[lower])?;
+    push_sections(&mut words, &ORDER[lower + 2..])?;
     Ok((words, place))
 }
 
