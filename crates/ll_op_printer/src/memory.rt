@@ -6,7 +6,7 @@ ghost use Rattle.ll_phrases.specs.Phrases.{if_some, written};
 
 use crate::bytes::{push_bytes, push_str};
 use crate::operands::{
-    push_align, push_alignment, push_atomic, push_order, push_pointed, push_two_behind,
+    push_align, push_alignment, push_atomic, push_order, push_pointed, push_two, push_two_behind,
 };
 use crate::values::{push_marked, push_values_behind};
 use crate::words::rmw_word;
@@ -44,7 +44,8 @@ pub fn push_store(
     ensures { OnOk result (text.new.items ≡ text.old.items ++ written (op_phrase names.now (form.Store volatile value.now pointer.now align))) }
 {
     push_marked(text, "store", "volatile", volatile)?;
-    push_two_behind(text, names, "", value, pointer)?;
+    push_bytes(text, b" ")?;
+    push_two(text, names, value, pointer)?;
     push_align(text, align)
 }
 

@@ -16,7 +16,7 @@ use ports::OutOfMemory;
 use sqlite_items::Items;
 
 /// Writes two operands with their types.
-fn push_two(
+pub fn push_two(
     text: &mut Vec<u8>,
     names: &[NameText],
     first: &TypedValue,
